@@ -1,0 +1,9 @@
+pub mod Parts
+pub mod Linear
+pub mod Readings
+pub mod Ring
+pub mod Floor
+pub mod Rounding
+pub mod Tests
+pub mod Sum
+pub mod Lists

@@ -1,0 +1,82 @@
+-- Lists by place: lists made by `tab` and what a store makes of one, a stretch put into a list, a copy from the front. Assumes nothing.
+use mathlib.Core.Path.{_≡_, refl, ap, sym, _∙_}
+use mathlib.Core.Logic.{_≢_}
+use mathlib.Core.List.{List, [], _∷_, _++_, append-nil}
+use Prim.Native.Nat.{ℕ, zero, suc, _+_, _-_, _<_, _≤_}
+use native.Mathlib.Nat.{not-suc-le-zero, le-of-suc-le-suc}
+use native.Mathlib.Numerals.{add-one}
+use native.Mathlib.Decide.{ℕ-discrete, decLt}
+use native.Mathlib.Omega.{arith}
+use lib.ListN.{length, set, take, drop, getD, length-set, length-append, length-drop, drop-of-length-le, List·getD-append}
+use lib.Seq.{take-all, drop-drop, length-take-le, getD-take, getD-drop, getD-append-add, getD-set-same, getD-set-other, ext-getD}
+use borrow.Rule.Slice.PartMut.{putMid}
+use Rattle.whole.specs.Lists.{tab, splice}
+
+module _ {A : Type 0} where
+  -- ---- lists made place by place
+  pub length-tab : (n : ℕ) (f : ℕ → A) → length (tab n f) ≡ n
+  unfolding tab
+  length-tab zero f = refl
+  length-tab (suc n) f = ap suc (length-tab n (λ i. f (suc i)))
+
+  pub getD-tab : (n : ℕ) (f : ℕ → A) (i : ℕ) (a : A) → i < n → getD (tab n f) i a ≡ f i
+  unfolding tab
+  getD-tab zero f i a l = absurd (not-suc-le-zero l)
+  getD-tab (suc n) f zero a l = refl
+  getD-tab (suc n) f (suc i) a l = getD-tab n (λ i. f (suc i)) i a (le-of-suc-le-suc l)
+
+  pub tab-is : (n : ℕ) (f : ℕ → A) (l : List A) (a : A) → length l ≡ n → ((i : ℕ) → i < n → getD l i a ≡ f i) → l ≡ tab n f
+  tab-is n f l a e h = ext-getD a l (tab n f) (e ∙ sym (length-tab n f)) (λ i q. let q′ : i < n = omega arith in h i q′ ∙ sym (getD-tab n f i a q′))
+
+  pub tab-cong : (n : ℕ) (f g : ℕ → A) → ((i : ℕ) → i < n → f i ≡ g i) → tab n f ≡ tab n g
+  unfolding tab
+  tab-cong zero f g h = refl
+  tab-cong (suc n) f g h = ap (λ (l : List A). f 0 ∷ l) (tab-cong n (λ i. f (suc i)) (λ i. g (suc i)) (λ i l. h (suc i) (omega arith))) ∙ ap (λ (x : A). x ∷ tab n (λ i. g (suc i))) (h 0 (omega arith))
+
+  -- a store at i makes g of f, where the two agree at every other place
+  pub set-tab : (n : ℕ) (f g : ℕ → A) (i : ℕ) (v : A) → i < n → v ≡ g i → ((j : ℕ) → j < n → j ≢ i → f j ≡ g j) → set (tab n f) i v ≡ tab n g
+  set-tab n f g i v p e h = tab-is n g (set (tab n f) i v) v (length-set (tab n f) i v ∙ length-tab n f) at-each
+    where
+      at-each : (j : ℕ) → j < n → getD (set (tab n f) i v) j v ≡ g j
+      at-each j q = go (ℕ-discrete j i)
+        where
+          go : Dec (j ≡ i) → getD (set (tab n f) i v) j v ≡ g j
+          go (yes k) = rw k (getD-set-same (tab n f) i v v (rw (length-tab n f) p) ∙ e)
+          go (no k) = getD-set-other (tab n f) i j v v k ∙ getD-tab n f j v q ∙ h j q k
+
+  -- ---- a stretch put into a list
+  pub length-splice : (l : List A) (a : ℕ) (v : List A) → a + length v ≤ length l → length (splice l a v) ≡ length l
+  length-splice l a v h = simp (length-append, length-take-le a l (omega arith), length-drop) (omega arith)
+
+  pub getD-splice-before : (l : List A) (a : ℕ) (v : List A) (i : ℕ) (z : A) → a ≤ length l → i < a → getD (splice l a v) i z ≡ getD l i z
+  getD-splice-before l a v i z h k = List·getD-append (take a l) (v ++ drop (a + length v) l) z i (rw (length-take-le a l h) k) ∙ getD-take a l i z k
+
+  past : (l r : List A) (n i : ℕ) (z : A) → length l ≡ n → getD (l ++ r) (n + i) z ≡ getD r i z
+  past l r n i z e = rw (← e) (getD-append-add l r i z)
+
+  pub getD-splice-in : (l : List A) (a : ℕ) (v : List A) (i : ℕ) (z : A) → a ≤ length l → i < length v → getD (splice l a v) (a + i) z ≡ getD v i z
+  getD-splice-in l a v i z h k = past (take a l) (v ++ drop (a + length v) l) a i z (length-take-le a l h) ∙ List·getD-append v (drop (a + length v) l) z i k
+
+  pub getD-splice-after : (l : List A) (a : ℕ) (v : List A) (i : ℕ) (z : A) → a ≤ length l → getD (splice l a v) (a + (length v + i)) z ≡ getD l (a + length v + i) z
+  getD-splice-after l a v i z h = past (take a l) (v ++ drop (a + length v) l) a (length v + i) z (length-take-le a l h)
+      ∙ getD-append-add v (drop (a + length v) l) i z ∙ getD-drop (a + length v) l i z
+
+  -- ---- a copy from the front, one store a turn
+  copy-suc : (s d : List A) (i : ℕ) (z : A) → i < length s → i < length d → set (take i s ++ drop i d) i (getD s i z) ≡ take (suc i) s ++ drop (suc i) d
+  copy-suc [] d i z p q = absurd (not-suc-le-zero p)
+  copy-suc (x ∷ s) [] i z p q = absurd (not-suc-le-zero q)
+  copy-suc (x ∷ s) (y ∷ d) zero z p q = refl
+  copy-suc (x ∷ s) (y ∷ d) (suc i) z p q = ap (λ (t : List A). x ∷ t) (copy-suc s d i z (le-of-suc-le-suc p) (le-of-suc-le-suc q))
+
+  pub copy-more : {t : List A} (s d : List A) (i : ℕ) (z : A) → i < length s → i < length d → t ≡ take i s ++ drop i d → set t i (getD s i z) ≡ take (i + 1) s ++ drop (i + 1) d
+  copy-more s d i z p q e = rw (e, add-one) (copy-suc s d i z p q)
+
+  pub copy-all : {t : List A} (s d : List A) (i : ℕ) → length s ≤ i → length d ≤ i → t ≡ take i s ++ drop i d → t ≡ s
+  copy-all s d i p q e = e ∙ rw (take-all i s p, drop-of-length-le d q) (append-nil s)
+
+  -- ---- a part that was lent, and has come back
+  rest : (a n : ℕ) (l : List A) → drop (a + n - a) (drop a l) ≡ drop (a + n) l
+  rest a n l = let q : a + n - a ≡ n = omega arith in rw q (drop-drop n a l)
+
+  pub back : (a : ℕ) (l v w : List A) → w ≡ v → putMid a (a + length v - a) l w ≡ splice l a v
+  back a l v w e = rw e (ap (λ (t : List A). take a l ++ (v ++ t)) (rest a (length v) l))

@@ -1,0 +1,187 @@
+-- The laws of the ring ℤ and of its order, and of the size of a number. Assumes nothing.
+use mathlib.Core.Path.{_≡_, refl, sym, _∙_, ap}
+use mathlib.Core.Logic.{_⊎_, inl, inr}
+use Prim.Native.Nat.{ℕ, zero, suc, _+_, _*_, _-_, _<_, _≤_}
+use native.Mathlib.Nat.{mul-le-mul-right, mul-le-mul}
+use native.Mathlib.Decide.{decLe}
+use native.Mathlib.Omega.{arith}
+use lib.IntN.{ℤ, pos, negsuc, negℤ, _+ℤ_, _-ℤ_, _*ℤ_}
+use lib.Signed.{_≤ℤ_, _<ℤ_}
+use Rattle.whole.specs.Size.{P, N, Abs≤}
+use Rattle.whole.proofs.Parts.{le-in, lt-in, le-out, lt-out, eq-in, mul-is, P-neg, N-neg, zin, zout}
+use Rattle.whole.proofs.Readings.{zed, zlin, zle, zlt, zeq, ole, olt, oeq, scale, Rd, Two, Holds}
+
+-- ---- the ring
+pub *-assoc : (a b c : ℤ) → (a *ℤ b) *ℤ c ≡ a *ℤ (b *ℤ c)
+*-assoc a b c = zeq (search zed depth 14) (omega arith)
+
+pub *-comm : (a b : ℤ) → a *ℤ b ≡ b *ℤ a
+*-comm a b = zeq (search zed depth 14) (omega arith)
+
+pub *-dist-r : (a b c : ℤ) → (a +ℤ b) *ℤ c ≡ a *ℤ c +ℤ b *ℤ c
+*-dist-r a b c = zeq (search zed depth 14) (omega arith)
+
+pub *-dist-l : (a b c : ℤ) → a *ℤ (b +ℤ c) ≡ a *ℤ b +ℤ a *ℤ c
+*-dist-l a b c = zeq (search zed depth 14) (omega arith)
+
+pub *-dist-minus : (a b c : ℤ) → a *ℤ (b -ℤ c) ≡ a *ℤ b -ℤ a *ℤ c
+*-dist-minus a b c = zeq (search zed depth 14) (omega arith)
+
+pub *-one : (a : ℤ) → pos 1 *ℤ a ≡ a
+*-one a = zeq (search zed depth 14) (omega arith)
+
+pub *-zero : (a : ℤ) → pos 0 *ℤ a ≡ pos 0
+*-zero a = zeq (search zed depth 14) (omega arith)
+
+pub neg-times : (a b : ℤ) → negℤ a *ℤ b ≡ negℤ (a *ℤ b)
+neg-times a b = zeq (search zed depth 14) (omega arith)
+
+pub minus-self : (a : ℤ) → a -ℤ a ≡ pos 0
+minus-self a = zeq (search zed depth 14) (omega arith)
+
+pub minus-plus : (a b : ℤ) → (a -ℤ b) +ℤ b ≡ a
+minus-plus a b = zeq (search zed depth 14) (omega arith)
+
+pub minus-minus : (a b c : ℤ) → a -ℤ (b -ℤ c) ≡ (a -ℤ b) +ℤ c
+minus-minus a b c = zeq (search zed depth 14) (omega arith)
+
+pub swap-minus : (a b : ℤ) → negℤ (a -ℤ b) ≡ b -ℤ a
+swap-minus a b = zeq (search zed depth 14) (omega arith)
+
+-- of a higher degree: each side is multiplied out in ℤ first, and each monomial, its factors sorted, is an atom
+pub *-left : (a b c : ℤ) → a *ℤ (b *ℤ c) ≡ b *ℤ (a *ℤ c)
+*-left a b c = zeq (search zed depth 14) (omega arith)
+
+pub times-neg : (a b : ℤ) → a *ℤ negℤ b ≡ negℤ (a *ℤ b)
+times-neg a b = zeq (search zed depth 14) (omega arith)
+
+pub lit-l : (n : ℕ) (z : ℤ) → pos n *ℤ z ≡ scale n z
+unfolding scale
+lit-l n z = refl
+
+pub lit-r : (n : ℕ) (z : ℤ) → z *ℤ pos n ≡ scale n z
+unfolding scale
+lit-r n z = *-comm z (pos n)
+
+pub nlit-l : (n : ℕ) (z : ℤ) → negsuc n *ℤ z ≡ negℤ (scale (suc n) z)
+nlit-l n z = zeq (search zlin depth 14) (omega (arith, mul-is (negsuc n) z))
+
+pub nlit-r : (n : ℕ) (z : ℤ) → z *ℤ negsuc n ≡ negℤ (scale (suc n) z)
+nlit-r n z = *-comm z (negsuc n) ∙ nlit-l n z
+
+pub scale-l : (n : ℕ) (a b : ℤ) → scale n a *ℤ b ≡ scale n (a *ℤ b)
+unfolding scale
+scale-l n a b = *-assoc (pos n) a b
+
+pub scale-r : (n : ℕ) (a b : ℤ) → a *ℤ scale n b ≡ scale n (a *ℤ b)
+unfolding scale
+scale-r n a b = *-left a (pos n) b
+
+pub ruleset zring = (lit-l, lit-r, nlit-l, nlit-r, scale-l, scale-r, *-dist-r, *-dist-l, neg-times, times-neg, *-assoc, *-comm, *-left)
+
+-- ---- the order
+pub le-trans : {a b c : ℤ} → a ≤ℤ b → b ≤ℤ c → a ≤ℤ c
+le-trans {a} {b} {c} h k = omega (arith, zin, zout)
+
+pub le-antisymm : {a b : ℤ} → a ≤ℤ b → b ≤ℤ a → a ≡ b
+le-antisymm {a} {b} h k = omega (arith, zin, zout)
+
+pub lt-trans : {a b c : ℤ} → a <ℤ b → b <ℤ c → a <ℤ c
+lt-trans {a} {b} {c} h k = omega (arith, zin, zout)
+
+pub lt-le : {a b : ℤ} → a <ℤ b → a ≤ℤ b
+lt-le {a} {b} h = omega (arith, zin, zout)
+
+pub lt-irrefl : {a : ℤ} → a <ℤ a → ⊥
+lt-irrefl {a} h = omega (arith, zin, zout)
+
+pub ne-of-lt : {a b : ℤ} → a <ℤ b → a ≡ b → ⊥
+ne-of-lt {a} {b} h e = omega (arith, zin)
+
+-- which of the two
+pub le-or-lt : (a b : ℤ) → (a ≤ℤ b) ⊎ (b <ℤ a)
+le-or-lt a b = go (decLe (P a + N b) (P b + N a))
+  where
+    go : Dec (P a + N b ≤ P b + N a) → (a ≤ℤ b) ⊎ (b <ℤ a)
+    go (yes h) = inl (le-out a b h)
+    go (no h) = inr (lt-out b a (omega arith))
+
+pub add-mono : {a b c d : ℤ} → a ≤ℤ b → c ≤ℤ d → (a +ℤ c) ≤ℤ (b +ℤ d)
+add-mono {a} {b} {c} {d} h k = zle (search zed depth 14) (omega (arith, zin))
+
+pub neg-mono : {a b : ℤ} → a ≤ℤ b → negℤ b ≤ℤ negℤ a
+neg-mono {a} {b} h = zle (search zed depth 14) (omega (arith, zin))
+
+pub sub-nonneg : {a b : ℤ} → a ≤ℤ b → pos 0 ≤ℤ (b -ℤ a)
+sub-nonneg {a} {b} h = zle (search zed depth 14) (omega (arith, zin))
+
+-- times a natural number
+pub mul-mono : {a b : ℤ} (k : ℕ) → a ≤ℤ b → (pos k *ℤ a) ≤ℤ (pos k *ℤ b)
+mul-mono {a} {b} k h = zle (search zed depth 14) (omega (arith, mul-le-mul-right k (le-in a b h)))
+
+pub nonneg-N : {z : ℤ} → pos 0 ≤ℤ z → N z ≡ 0
+nonneg-N {z = pos n} h = refl
+nonneg-N {z = negsuc n} h = absurd (h .le)
+
+pub negative-P : {z : ℤ} → z <ℤ pos 0 → P z ≡ 0
+negative-P {z = pos n} h = let l = lt-in (pos n) (pos 0) h in omega arith
+negative-P {z = negsuc n} h = refl
+
+pub mul-mono-z : {a b : ℤ} (k : ℤ) → pos 0 ≤ℤ k → a ≤ℤ b → (k *ℤ a) ≤ℤ (k *ℤ b)
+mul-mono-z {a} {b} k p h = zle (search zed depth 14) (omega (arith, mul-le-mul-right (P k) (le-in a b h), ap (λ (x : ℕ). x * P a) (nonneg-N p), ap (λ (x : ℕ). x * P b) (nonneg-N p), ap (λ (x : ℕ). x * N a) (nonneg-N p), ap (λ (x : ℕ). x * N b) (nonneg-N p)))
+
+-- ---- a bound on the size: |z| ≤ B. `P z + N z` is |z|, and omega reads it
+pub abs-pair : {z : ℤ} {B : ℕ} → negℤ (pos B) ≤ℤ z → z ≤ℤ pos B → Abs≤ z B
+abs-pair {z} {B} h k = record { abs = go z (omega (arith, ole h (search zed depth 14) (omega arith))) (le-in z (pos B) k) }
+  where
+    go : (z : ℤ) → N z ≤ P z + B → P z + 0 ≤ B + N z → P z + N z ≤ B
+    go (pos n) h k = omega arith
+    go (negsuc n) h k = omega arith
+
+pub abs-lo : {z : ℤ} {B : ℕ} → Abs≤ z B → negℤ (pos B) ≤ℤ z
+abs-lo {z} {B} h = zle (search zed depth 14) (omega arith)
+
+pub abs-hi : {z : ℤ} {B : ℕ} → Abs≤ z B → z ≤ℤ pos B
+abs-hi {z} {B} h = omega (arith, zout)
+
+pub size : (n : ℕ) → P (negℤ (pos n)) + N (negℤ (pos n)) ≡ n
+size zero = refl
+size (suc n) = omega arith
+
+pub neg-part : (n : ℕ) → P (negℤ (pos n)) ≡ 0
+neg-part zero = refl
+neg-part (suc n) = refl
+
+-- the size of a product is the product of the sizes
+pub abs-mul : (a b : ℤ) → P (a *ℤ b) + N (a *ℤ b) ≡ (P a + N a) * (P b + N b)
+abs-mul (pos a) (pos b) = omega arith
+abs-mul (pos a) (negsuc b) = omega (arith, size (a * suc b))
+abs-mul (negsuc a) (pos b) = omega (arith, size (suc a * b))
+abs-mul (negsuc a) (negsuc b) = omega arith
+
+-- |a| ≤ B, of an expression, for omega's list
+pub bd-of : (a : ℤ) (B : ℕ) (e : Rd a) → Holds (e .r .asks) × (e .r .p ≤ e .r .n + B) × (e .r .n ≤ e .r .p + B) → P a + N a ≤ B
+bd-of a B e h = go a (e .r .p) (e .r .n) (omega (arith, e .r .is (h .0), eq-in a (e .r .v) (e .r .same (h .0)))) (h .1) (h .2)
+  where
+    go : (a : ℤ) (p n : ℕ) → P a + n ≡ p + N a → p ≤ n + B → n ≤ p + B → P a + N a ≤ B
+    go (pos x) p n h k l = omega arith
+    go (negsuc x) p n h k l = omega arith
+
+-- the product of two numbers of which |a| ≤ B and |b| ≤ C: bd2 (bd-of B (search zlin depth 14) (omega ..)) (bd-of C ..)
+pub bd2 : {B C : ℕ} (a b : ℤ) → P a + N a ≤ B → P b + N b ≤ C → P (a *ℤ b) + N (a *ℤ b) ≤ B * C
+bd2 a b h k = omega (arith, abs-mul a b, mul-le-mul h k)
+
+pub zabs : {a : ℤ} {B : ℕ} (e : Rd a) → Holds (e .r .asks) × (e .r .p ≤ e .r .n + B) × (e .r .n ≤ e .r .p + B) → Abs≤ a B
+zabs {a} {B} e h = record { abs = bd-of a B e h }
+
+-- of two expressions at once
+pub bd1 : (a b : ℤ) (B C : ℕ) (t : Two a b) → Holds (t .e .asks) × Holds (t .f .asks) × (t .e .p ≤ t .e .n + B) × (t .e .n ≤ t .e .p + B) × (t .f .p ≤ t .f .n + C) × (t .f .n ≤ t .f .p + C) → P (t .e .v *ℤ t .f .v) + N (t .e .v *ℤ t .f .v) ≤ B * C
+bd1 a b B C t h = bd2 (t .e .v) (t .f .v) (go (t .e .v) (t .e .p) (t .e .n) B (t .e .is (h .0)) (h .2) (h .3)) (go (t .f .v) (t .f .p) (t .f .n) C (t .f .is (h .1)) (h .4) (h .5))
+  where
+    go : (a : ℤ) (p n B : ℕ) → P a + n ≡ p + N a → p ≤ n + B → n ≤ p + B → P a + N a ≤ B
+    go (pos x) p n B h k l = omega arith
+    go (negsuc x) p n B h k l = omega arith
+
+-- the size of a product
+pub abs-times : (a b : ℤ) {B C D : ℕ} → Abs≤ a B → Abs≤ b C → B * C ≤ D → Abs≤ (a *ℤ b) D
+abs-times a b h k l = record { abs = omega (arith, abs-mul a b, mul-le-mul (h .abs) (k .abs)) }
