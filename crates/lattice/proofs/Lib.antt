@@ -1,0 +1,8 @@
+pub mod Grains
+pub mod Spread
+pub mod Corners
+pub mod Points
+pub mod Only
+pub mod Reach
+pub mod CornerWeight
+pub mod Starred

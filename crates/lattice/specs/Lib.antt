@@ -1,0 +1,8 @@
+pub mod Lattice
+pub mod Weight
+pub mod Points
+pub mod Refusals
+pub mod Position
+pub mod Simplex
+pub mod Theorems
+pub mod Starred
