@@ -15,6 +15,7 @@ use Rattle.whole.proofs.Linear.{on, difs, ints}
 use Rattle.whole.proofs.Floor.{div-rem, remainder-lt, remainder-is}
 use Rattle.lattice.specs.Weight.{residual, spread, weight}
 use Rattle.lattice.specs.Points.{cornerAt}
+use Rattle.lattice.specs.Inner.{peak}
 use Rattle.lattice.proofs.Spread.{Spread, spread-is}
 
 -- ---- the weight of a cornerAt: W less the greatest remainder of x_i − x_j by W
@@ -27,22 +28,18 @@ spread-one n a s t A B = le-antisymm (half s t A B) (half t s B A)
     half : (s t : ℕ) → Spread n a s → Spread n a t → s ≤ t
     half s t A B = lin s t (a (A .hi)) (a (A .lo)) (a (B .hi)) (a (B .lo)) (B .above (A .hi) (A .hi-in)) (B .below (A .lo) (A .lo-in)) (A .is) (B .is)
 
--- the greatest of f 0, …, f d
-unfoldable pub most : ℕ → (ℕ → ℕ) → ℕ
-most zero f = f 0
-most (suc d) f = max (most d f) (f (suc d))
-
-most-is : (d : ℕ) (f : ℕ → ℕ) → (h : ℕ) × (h < suc d) × (most d f ≡ f h) × ((i : ℕ) → i < suc d → f i ≤ most d f)
-unfolding most
-most-is zero f = (0, omega arith, refl, λ i l. let e : i ≡ 0 = omega arith in rw e (le-refl (f 0)))
-most-is (suc d) f = go (most-is d f) (decLe (f (suc d)) (most d f))
+-- the greatest of f 0, …, f d is one of them
+peak-is : (d : ℕ) (f : ℕ → ℕ) → (h : ℕ) × (h < suc d) × (peak (suc d) f ≡ f h) × ((i : ℕ) → i < suc d → f i ≤ peak (suc d) f)
+unfolding peak
+peak-is zero f = (0, omega arith, omega arith, λ i l. let e : i ≡ 0 = omega arith in rw e (omega arith))
+peak-is (suc d) f = go (peak-is d f) (decLe (f (suc d)) (peak (suc d) f))
   where
-    either : (i : ℕ) → ((i : ℕ) → i < suc d → f i ≤ most d f) → (i ≡ suc d) ⊎ (i < suc d) → f i ≤ max (most d f) (f (suc d))
+    either : (i : ℕ) → ((i : ℕ) → i < suc d → f i ≤ peak (suc d) f) → (i ≡ suc d) ⊎ (i < suc d) → f i ≤ max (peak (suc d) f) (f (suc d))
     either i u (inl e) = rw e (omega arith)
     either i u (inr l) = omega (arith, u i l)
 
-    go : ((h : ℕ) × (h < suc d) × (most d f ≡ f h) × ((i : ℕ) → i < suc d → f i ≤ most d f)) → Dec (f (suc d) ≤ most d f)
-        → (h : ℕ) × (h < suc (suc d)) × (max (most d f) (f (suc d)) ≡ f h) × ((i : ℕ) → i < suc (suc d) → f i ≤ max (most d f) (f (suc d)))
+    go : ((h : ℕ) × (h < suc d) × (peak (suc d) f ≡ f h) × ((i : ℕ) → i < suc d → f i ≤ peak (suc d) f)) → Dec (f (suc d) ≤ peak (suc d) f)
+        → (h : ℕ) × (h < suc (suc d)) × (max (peak (suc d) f) (f (suc d)) ≡ f h) × ((i : ℕ) → i < suc (suc d) → f i ≤ max (peak (suc d) f) (f (suc d)))
     go (h, l, e, u) (yes k) = (h, omega arith, omega arith, λ i m. either i u (eq-or-lt-of-le (le-of-suc-le-suc m)))
     go (h, l, e, u) (no k) = (suc d, omega arith, omega arith, λ i m. either i u (eq-or-lt-of-le (le-of-suc-le-suc m)))
 
@@ -75,16 +72,16 @@ module _ (d S : ℕ) (p : 0 < S) (x : ℕ → ℤ) (j : ℕ) (q : j < suc d) whe
       lin : (m : ℕ) (a : ℤ) → a -ℤ a ≡ pos m *ℤ pos 0 +ℤ pos 0
       lin m = on _ λ a b. simp difs (omega ints)
 
-  pub corner-spread : Spread (suc d) (residual S x (cornerAt d S x j)) (most d (λ i. remainder (x i -ℤ x j) (suc d * S)))
+  pub corner-spread : Spread (suc d) (residual S x (cornerAt d S x j)) (peak (suc d) (λ i. remainder (x i -ℤ x j) (suc d * S)))
   unfolding left W
-  corner-spread = let t = most-is d left in record {
+  corner-spread = let t = peak-is d left in record {
     hi = t .0;
     lo = j;
     hi-in = t .1;
     lo-in = q;
-    above = λ i l. rw (res-left i, res-left (t .0), ← (t .2)) (lin (left i) (most d left) base (t .3 i l));
+    above = λ i l. rw (res-left i, res-left (t .0), ← (t .2)) (lin (left i) (peak (suc d) left) base (t .3 i l));
     below = λ i l. rw (res-left i, res-left j, left-own) (lin 0 (left i) base (omega arith));
-    is = rw (res-left (t .0), res-left j, left-own, ← (t .2)) (lin′ (most d left) base);
+    is = rw (res-left (t .0), res-left j, left-own, ← (t .2)) (lin′ (peak (suc d) left) base);
   }
     where
       lin : (m n : ℕ) (c : ℤ) → m ≤ n → (pos m +ℤ c) ≤ℤ (pos n +ℤ c)
@@ -93,6 +90,6 @@ module _ (d S : ℕ) (p : 0 < S) (x : ℕ → ℤ) (j : ℕ) (q : j < suc d) whe
       lin′ : (m : ℕ) (c : ℤ) → pos m +ℤ c ≡ pos 0 +ℤ c +ℤ pos m
       lin′ m = on _ λ a b. simp difs (omega ints)
 
-  pub corner-weighs : weight d S x (cornerAt d S x j) ≡ suc d * S - most d (λ i. remainder (x i -ℤ x j) (suc d * S))
+  pub corner-weighs : weight d S x (cornerAt d S x j) ≡ suc d * S - peak (suc d) (λ i. remainder (x i -ℤ x j) (suc d * S))
   unfolding weight
-  corner-weighs = ap (λ (s : ℕ). suc d * S - s) (spread-one (suc d) (residual S x (cornerAt d S x j)) (spread d (residual S x (cornerAt d S x j))) (most d (λ i. remainder (x i -ℤ x j) (suc d * S))) (spread-is d (residual S x (cornerAt d S x j))) corner-spread)
+  corner-weighs = ap (λ (s : ℕ). suc d * S - s) (spread-one (suc d) (residual S x (cornerAt d S x j)) (spread d (residual S x (cornerAt d S x j))) (peak (suc d) (λ i. remainder (x i -ℤ x j) (suc d * S))) (spread-is d (residual S x (cornerAt d S x j))) corner-spread)

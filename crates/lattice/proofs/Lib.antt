@@ -5,4 +5,10 @@ pub mod Points
 pub mod Only
 pub mod Reach
 pub mod CornerWeight
+pub mod Judging
+pub mod Splits
+pub mod Padding
+pub mod Steps
+pub mod Slots
+pub mod Enclosing
 pub mod Starred

@@ -44,7 +44,7 @@ weight-cong d S x f g e = rw (best-cong leZ d (residual S x f) (residual S x g) 
     e′ i l = ap (λ (z : ℤ). x i -ℤ pos S *ℤ z) (e i l)
 
 module _ (d S : ℕ) (p : 0 < S) (x : List ℤ) where
-  corner-at : (j i : ℕ) → i < suc d → at (corner d S x j) i ≡ cornerAt d S (at x) j i
+  pub corner-at : (j i : ℕ) → i < suc d → at (corner d S x j) i ≡ cornerAt d S (at x) j i
   unfolding corner
   corner-at j i l = getD-tab (suc d) (cornerAt d S (at x) j) i (pos 0) l
 
@@ -119,7 +119,7 @@ module _ (d S : ℕ) (p : 0 < S) (x : List ℤ) where
       go j r (inl k) = (length ps, omega (arith, length-append ps (corner d S x c ∷ [])), getD-append-seam ps (corner d S x c) [] [] ∙ corner-one c j q r (e ∙ sym k))
       go j r (inr k) = let t = U .full j r k in (t .0, omega (arith, length-append ps (corner d S x c ∷ []), t .1), old (t .0) (t .1) ∙ t .2)
 
-  found : (K n : ℕ) → n ≤ suc d → (lastOf n (λ j. eqb (key (corner d S x j)) K) (corner d S x) ≡ [] × ((j : ℕ) → j < n → key (corner d S x j) ≡ K → ⊥))
+  pub found : (K n : ℕ) → n ≤ suc d → (lastOf n (λ j. eqb (key (corner d S x j)) K) (corner d S x) ≡ [] × ((j : ℕ) → j < n → key (corner d S x j) ≡ K → ⊥))
       ⊎ ((c : ℕ) × (c < suc d) × (key (corner d S x c) ≡ K) × (lastOf n (λ j. eqb (key (corner d S x j)) K) (corner d S x) ≡ corner d S x c ∷ []))
   unfolding lastOf
   found K zero h = inl (refl, λ j l. absurd (not-suc-le-zero l))

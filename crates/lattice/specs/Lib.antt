@@ -4,5 +4,6 @@ pub mod Points
 pub mod Refusals
 pub mod Position
 pub mod Simplex
+pub mod Inner
 pub mod Theorems
 pub mod Starred

@@ -1,16 +1,16 @@
 -- Lists by place: lists made by `tab` and what a store makes of one, a stretch put into a list, a copy from the front. Assumes nothing.
-use mathlib.Core.Path.{_≡_, refl, ap, sym, _∙_}
+use mathlib.Core.Path.{_≡_, refl, ap, ap₂, sym, _∙_}
 use mathlib.Core.Logic.{_≢_}
-use mathlib.Core.List.{List, [], _∷_, _++_, append-nil}
+use mathlib.Core.List.{List, [], _∷_, _++_, map, map-append, append-nil, append-assoc}
 use Prim.Native.Nat.{ℕ, zero, suc, _+_, _-_, _<_, _≤_}
 use native.Mathlib.Nat.{not-suc-le-zero, le-of-suc-le-suc}
 use native.Mathlib.Numerals.{add-one}
 use native.Mathlib.Decide.{ℕ-discrete, decLt}
 use native.Mathlib.Omega.{arith}
 use lib.ListN.{length, set, take, drop, getD, length-set, length-append, length-drop, drop-of-length-le, List·getD-append}
-use lib.Seq.{take-all, drop-drop, length-take-le, getD-take, getD-drop, getD-append-add, getD-set-same, getD-set-other, ext-getD}
+use lib.Seq.{paste, paste-zero, paste-suc, take-all, drop-drop, length-take-le, getD-take, getD-drop, getD-append-add, getD-set-same, getD-set-other, ext-getD}
 use borrow.Rule.Slice.PartMut.{putMid}
-use Rattle.whole.specs.Lists.{tab, splice}
+use Rattle.whole.specs.Lists.{tab, collect, splice}
 
 module _ {A : Type 0} where
   -- ---- lists made place by place
@@ -61,6 +61,23 @@ module _ {A : Type 0} where
   getD-splice-after l a v i z h = past (take a l) (v ++ drop (a + length v) l) a (length v + i) z (length-take-le a l h)
       ∙ getD-append-add v (drop (a + length v) l) i z ∙ getD-drop (a + length v) l i z
 
+  -- ---- a stretch copied into a list, one store a turn
+  pub splice-none : (l : List A) (a : ℕ) → l ≡ splice l a []
+  splice-none l a = paste-zero l a [] ∙ same
+    where
+      same : paste l a [] 0 ≡ splice l a []
+      same = append-assoc (take a l) [] (drop (a + 0) l)
+
+  splice-paste : (l : List A) (a : ℕ) (s : List A) (i : ℕ) → i ≤ length s → splice l a (take i s) ≡ paste l a s i
+  splice-paste l a s i h = ap (λ (n : ℕ). take a l ++ (take i s ++ drop (a + n) l)) (length-take-le i s h) ∙ sym (append-assoc (take a l) (take i s) (drop (a + i) l))
+
+  pub splice-more : {t : List A} {v : A} (l : List A) (a : ℕ) (s : List A) (i : ℕ) (z : A) → a + i < length l → i < length s → t ≡ splice l a (take i s) → v ≡ getD s i z → set t (a + i) v ≡ splice l a (take (i + 1) s)
+  splice-more l a s i z p q e k = ap₂ (λ (t : List A) (v : A). set t (a + i) v) (e ∙ splice-paste l a s i (omega arith)) k
+      ∙ paste-suc l a s i z p q ∙ rw add-one (sym (splice-paste l a s (suc i) q))
+
+  pub splice-all : {t : List A} (l : List A) (a : ℕ) (s : List A) (i : ℕ) → length s ≤ i → t ≡ splice l a (take i s) → t ≡ splice l a s
+  splice-all l a s i p e = e ∙ ap (splice l a) (take-all i s p)
+
   -- ---- a copy from the front, one store a turn
   copy-suc : (s d : List A) (i : ℕ) (z : A) → i < length s → i < length d → set (take i s ++ drop i d) i (getD s i z) ≡ take (suc i) s ++ drop (suc i) d
   copy-suc [] d i z p q = absurd (not-suc-le-zero p)
@@ -80,3 +97,14 @@ module _ {A : Type 0} where
 
   pub back : (a : ℕ) (l v w : List A) → w ≡ v → putMid a (a + length v - a) l w ≡ splice l a v
   back a l v w e = rw e (ap (λ (t : List A). take a l ++ (v ++ t)) (rest a (length v) l))
+
+  -- ---- lists one after the other
+  pub collect-cong : (n : ℕ) (g h : ℕ → List A) → ((k : ℕ) → k < n → g k ≡ h k) → collect n g ≡ collect n h
+  unfolding collect
+  collect-cong zero g h e = refl
+  collect-cong (suc n) g h e = ap₂ _++_ (collect-cong n g h (λ k l. e k (omega arith))) (e n (omega arith))
+
+pub map-collect : {A B : Type 0} (f : A → B) (n : ℕ) (g : ℕ → List A) → map f (collect n g) ≡ collect n (λ k. map f (g k))
+unfolding collect
+map-collect f zero g = refl
+map-collect f (suc n) g = map-append f (collect n g) (g n) ∙ ap (λ (t : List _). t ++ map f (g n)) (map-collect f n g)

@@ -7,9 +7,12 @@ use native.Mathlib.Decide.{decLe}
 use native.Mathlib.Omega.{arith}
 use lib.IntN.{ℤ, pos, negsuc, negℤ, _+ℤ_, _-ℤ_, _*ℤ_}
 use lib.Signed.{_≤ℤ_, _<ℤ_}
+use mir.Syntax.{w32}
+use mir.Val.{SFits}
+use mir.ValLaws.{toZ-ofZ}
 use Rattle.whole.specs.Size.{P, N, Abs≤}
-use Rattle.whole.proofs.Parts.{le-in, lt-in, le-out, lt-out, eq-in, mul-is, P-neg, N-neg, zin, zout}
-use Rattle.whole.proofs.Readings.{zed, zlin, zle, zlt, zeq, ole, olt, oeq, scale, Rd, Two, Holds}
+use Rattle.whole.proofs.Parts.{le-in, lt-in, le-out, lt-out, eq-in, mul-is, sfits-make, zin, zout}
+use Rattle.whole.proofs.Readings.{zed, zlin, zle, zlt, zeq, ole, olt, oeq, scale, Rd, Two, Holds, W32}
 
 -- ---- the ring
 pub *-assoc : (a b c : ℤ) → (a *ℤ b) *ℤ c ≡ a *ℤ (b *ℤ c)
@@ -185,3 +188,10 @@ bd1 a b B C t h = bd2 (t .e .v) (t .f .v) (go (t .e .v) (t .e .p) (t .e .n) B (t
 -- the size of a product
 pub abs-times : (a b : ℤ) {B C D : ℕ} → Abs≤ a B → Abs≤ b C → B * C ≤ D → Abs≤ (a *ℤ b) D
 abs-times a b h k l = record { abs = omega (arith, abs-mul a b, mul-le-mul (h .abs) (k .abs)) }
+
+-- a small number fits 32 bits, and is what is read back from its bits
+pub fits32 : {z : ℤ} {B : ℕ} → Abs≤ z B → B < 2147483648 → SFits w32 z
+fits32 {z} h k = sfits-make w32 z (omega arith) (omega arith)
+
+pub back32 : {z : ℤ} {B : ℕ} → Abs≤ z B → B < 2147483648 → W32 z ≡ z
+back32 {z} h k = toZ-ofZ w32 z (fits32 h k)

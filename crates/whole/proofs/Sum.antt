@@ -5,16 +5,19 @@ use mathlib.Core.Bool.{Bool, true, false, cond}
 use mathlib.Core.List.{List, [], _∷_, _++_}
 use Prim.Native.Nat.{ℕ, zero, suc, _+_, _*_, _-_, _≤_, _<_}
 use native.Mathlib.Nat.{not-suc-le-zero, le-refl, eq-or-lt-of-le, le-of-suc-le-suc}
+use native.Mathlib.Numerals.{add-one}
 use native.Mathlib.Omega.{arith}
 use lib.IntN.{ℤ, pos, negsuc, negℤ, _+ℤ_, _-ℤ_, _*ℤ_}
 use lib.Signed.{_≤ℤ_}
 use lib.Dec.{T}
 use lib.ListN.{length, getD}
-use Rattle.whole.specs.Size.{P, N}
+use Rattle.whole.specs.Size.{P, N, Abs≤}
 use Rattle.whole.specs.Floor.{floor, remainder}
 use Rattle.whole.specs.Sum.{sum, over}
 use Rattle.whole.proofs.Parts.{add-is, eq-out, le-out}
 use Rattle.whole.proofs.Linear.{on, difs, ints}
+use Rattle.whole.proofs.Readings.{zlin}
+use Rattle.whole.proofs.Ring.{zabs}
 use Rattle.whole.proofs.Floor.{div-rem, remainder-lt, floor-is, floor-next}
 use Rattle.whole.proofs.Tests.{T-true, T-false}
 
@@ -35,6 +38,10 @@ zero-times : (c : ℤ) → pos 0 ≡ pos 0 *ℤ c
 zero-times = on _ λ p m. simp difs (omega ints)
 
 -- ---- sums
+pub sum-more : (n : ℕ) (f : ℕ → ℤ) → sum (n + 1) f ≡ sum n f +ℤ f n
+unfolding sum
+sum-more n f = rw add-one refl
+
 pub sum-cong : (n : ℕ) (f g : ℕ → ℤ) → ((i : ℕ) → i < n → f i ≡ g i) → sum n f ≡ sum n g
 unfolding sum
 sum-cong zero f g h = refl
@@ -78,6 +85,15 @@ sum-le (suc n) f g h = lin (sum n f) (sum n g) (f n) (g n) (sum-le n f g (λ i l
   where
     lin : (a b c d : ℤ) → a ≤ℤ b → c ≤ℤ d → (a +ℤ c) ≤ℤ (b +ℤ d)
     lin = on _ λ a b. on _ λ c d. on _ λ e f. on _ λ g h. simp difs (omega ints)
+
+-- n numbers of size at most B
+pub sum-abs : (n : ℕ) (f : ℕ → ℤ) (B : ℕ) → ((i : ℕ) → i < n → Abs≤ (f i) B) → Abs≤ (sum n f) (n * B)
+unfolding sum
+sum-abs zero f B h = record { abs = omega arith }
+sum-abs (suc n) f B h = go (sum n f) (f n) (sum-abs n f B (λ i l. h i (omega arith))) (h n (le-refl (suc n)))
+  where
+    go : (a b : ℤ) → Abs≤ a (n * B) → Abs≤ b B → Abs≤ (a +ℤ b) (suc n * B)
+    go a b p q = zabs (search zlin depth 14) (omega arith)
 
 -- below at each place, and not in the sum: the same at each place
 pub sum-tight : (n : ℕ) (f g : ℕ → ℤ) → ((i : ℕ) → i < n → f i ≤ℤ g i) → sum n g ≤ℤ sum n f → (i : ℕ) → i < n → f i ≡ g i

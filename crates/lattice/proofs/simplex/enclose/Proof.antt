@@ -1,0 +1,95 @@
+-- After j turns the slots have the corners of the first j places.
+use borrow.Author.Needs.{needs}
+use native.Mathlib.Numerals.{add-one}
+use native.Mathlib.Omega.{arith}
+use mathlib.Core.Path.{_≡_, refl, ap, sym, _∙_}
+use Prim.Native.Nat.{ℕ, suc, _+_, _*_, _≤_, _<_, _-_}
+use lib.IntN.{ℤ, pos}
+use Rattle.whole.specs.Lists.{at}
+use Rattle.lattice.specs.Weight.{W}
+use Rattle.lattice.specs.Simplex.{slotWeights, slotCoords}
+use Rattle.lattice.specs.Inner.{CornerIs}
+use Rattle.lattice.proofs.Slots.{weights-turn, coords-turn}
+use Rattle.lattice.proofs.Enclosing.{near-of, parts-of, corner-is, no-weights, no-coords, room-of}
+use Rattle.lattice.proofs.simplex.enclose.Statement.{statement}
+use Rattle.lattice.proofs.simplex.enclose.Tie as tie
+use Rattle.lattice.proofs.simplex.enclose.Reads as reads
+use Rattle.lattice.proofs.simplex.enclose.Lts as lts
+use Rattle.lattice.proofs.corner.corner_of.Reads as corner-of-reads
+use Rattle.lattice.proofs.residual.residuals_of.Reads as residuals-of-reads
+use Rattle.lattice.proofs.simplex.put.Reads as put-reads
+
+abbrev Inv-loop : tie.InvT-loop
+Inv-loop x d fineness n w res s₀ j₀ s j = (j ≤ d + 1) × (s .weights ≡ slotWeights d fineness x j) × (s .coords ≡ slotCoords d fineness x j)
+
+abbrev μ-loop : tie.MeasureT-loop
+μ-loop x d fineness n w res s₀ j₀ s j = d + 1 - j
+
+add-n : tie.Need-add-n Inv-loop μ-loop
+add-n c = search needs
+
+cast-w : tie.Need-cast-w Inv-loop μ-loop
+cast-w c = search needs
+
+mul-w : tie.Need-mul-w Inv-loop μ-loop
+mul-w c = let n = near-of _ _ _ (c .pre) in record { fits = omega (arith, n .total .most) }
+
+residuals-of-requires : tie.Need-residuals-of-requires Inv-loop μ-loop
+residuals-of-requires c κs = near-of _ _ _ (c .pre)
+
+loop-holds : tie.Need-loop-holds Inv-loop μ-loop
+loop-holds c = let a = c .before .args in (search needs, no-weights (a .d) (a .fineness) (a .x .now), no-coords (a .d) (a .fineness) (a .x .now))
+
+corner-of-requires : tie.Need-corner-of-requires Inv-loop μ-loop
+corner-of-requires c κs = let s = c .before .before in (parts-of _ _ _ (s .before .pre) (s .residuals-of .ensures), search needs)
+
+-- the corner of place j
+here : (c : tie.After-corner-of Inv-loop μ-loop) →
+    let a = c .before .before .before .before .args in
+    let r = c .corner-of .result in
+    CornerIs (W (a .d) (a .fineness)) (suc (a .d)) (at (a .x .now)) (c .before .before .loop .j) (r .point) (r .slot) (r .weight)
+here c = let s = c .before .before .before in corner-is _ _ _ (s .before .pre) (s .residuals-of .ensures) (c .before .before .loop .j) (search needs) (c .corner-of .ensures)
+
+put-requires : tie.Need-put-requires Inv-loop μ-loop
+put-requires c κs = let l = c .before .before in let p = l .before .before .pre in room-of _ _ _ (l .loop .j) (p .S-least) (p .d-most) (omega arith) (here c) (l .loop .inv .2)
+
+add-j : tie.Need-add-j Inv-loop μ-loop
+add-j c = search needs
+
+loop-less : tie.Need-loop-less Inv-loop μ-loop
+loop-less c = search needs
+
+loop-again : tie.Need-loop-again Inv-loop μ-loop
+loop-again c =
+    let l = c .before .before .before in
+    let p = l .before .before .pre in
+    let q : l .loop .j < suc (l .before .before .args .d) = omega arith in
+    let e = sym (add-one (l .loop .j)) in (
+      search needs,
+      weights-turn _ _ _ (l .loop .j) (p .S-least) q (here (c .before)) (p .d-most) (l .loop .inv .1) (c .put .ensures .0) ∙ ap (slotWeights _ _ _) e,
+      coords-turn _ _ _ (l .loop .j) (p .S-least) q (here (c .before)) (p .d-most) (l .loop .inv .2) (c .put .ensures .1) ∙ ap (slotCoords _ _ _) e,
+    )
+
+returns : tie.Need-returns Inv-loop μ-loop
+returns c =
+    let l = c .before .loop in
+    let e : l .j ≡ suc (c .before .before .before .args .d) = omega arith in
+    record { weights-are = l .inv .1 ∙ ap (slotWeights _ _ _) e; coords-are = l .inv .2 ∙ ap (slotCoords _ _ _) e }
+
+pub enclose-spec : {M : Type 1} → statement M
+enclose-spec =
+    tie.close
+    (tie.spec
+    Inv-loop
+    μ-loop
+    add-n
+    cast-w
+    mul-w
+    residuals-of-requires
+    loop-holds
+    corner-of-requires
+    put-requires
+    add-j
+    loop-less
+    loop-again
+    returns)
