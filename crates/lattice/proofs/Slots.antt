@@ -156,3 +156,12 @@ unfolding weighed points g
 slots-are-the-points d S hd p x ws cs E = rw (E .weights-are, E .coords-are)
     (collect-cong (suc d) (slot d (slotWeights d S x (suc d)) (slotCoords d S x (suc d))) (λ k. map (λ y. (y, weight d S (at x) (at y))) (cornerOf d S x (suc d) k)) (λ k l. slot-is d S hd p x k l)
     ∙ sym (map-collect (λ y. (y, weight d S (at x) (at y))) (suc d) (cornerOf d S x (suc d))))
+
+-- what a caller needs to read them
+pub weights-length : {d S : ℕ} {x : List ℤ} {ws : List ℕ} {cs : List ℤ} → Encloses d S x ws cs → length ws ≡ 6
+unfolding slotWeights
+weights-length E = rw (E .weights-are) (length-tab 6 _)
+
+pub coords-length : {d S : ℕ} {x : List ℤ} {ws : List ℕ} {cs : List ℤ} → Encloses d S x ws cs → length cs ≡ 36
+unfolding slotCoords
+coords-length E = rw (E .coords-are) (length-tab 36 _)

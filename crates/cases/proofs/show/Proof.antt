@@ -1,0 +1,145 @@
+-- What `enclose` asks follows from the tests on the way and from `judge`.
+use borrow.Author.Needs.{needs}
+use native.Mathlib.Omega.{arith}
+use mathlib.Core.Path.{sym, _∙_}
+use Prim.Native.Nat.{_-_}
+use lib.ListN.{length}
+use Rattle.lattice.proofs.Judging.{placed}
+use Rattle.cases.proofs.show.Statement.{statement}
+use Rattle.cases.proofs.show.Tie as tie
+use Rattle.cases.proofs.show.Reads as reads
+use Rattle.cases.proofs.show.Lts as lts
+use Rattle.cases.proofs.print_numbers.Reads as print-numbers-reads
+use Rattle.cases.proofs.print_points.Reads as print-points-reads
+use Rattle.io.proofs.print_decimal.Reads as print-decimal-reads
+use Rattle.io.proofs.write_all.Reads as write-all-reads
+use Rattle.lattice.proofs.position.judge.Reads as judge-reads
+use Rattle.lattice.proofs.simplex.enclose.Reads as enclose-reads
+
+-- src/main.rt:62:9
+returns : tie.Need-returns
+returns c = search needs
+
+-- src/main.rt:65:9
+returns-2 : tie.Need-returns-2
+returns-2 c = search needs
+
+-- src/main.rt:68:9
+returns-3 : tie.Need-returns-3
+returns-3 c = search needs
+
+-- src/main.rt:71:9
+returns-4 : tie.Need-returns-4
+returns-4 c = search needs
+
+-- src/main.rt:73:34
+slice-aggregate-write-all : tie.Need-slice-aggregate-write-all
+slice-aggregate-write-all c = search needs
+
+-- src/main.rt:73:5
+write-all-requires : tie.Need-write-all-requires
+write-all-requires c κs = search needs
+
+-- src/main.rt:74:5
+print-decimal-requires : tie.Need-print-decimal-requires
+print-decimal-requires c κs = search needs
+
+-- src/main.rt:75:34
+slice-aggregate-write-all-2 : tie.Need-slice-aggregate-write-all-2
+slice-aggregate-write-all-2 c = search needs
+
+-- src/main.rt:75:5
+write-all-requires-2 : tie.Need-write-all-requires-2
+write-all-requires-2 c κs = search needs
+
+-- src/main.rt:76:5
+print-numbers-requires : tie.Need-print-numbers-requires
+print-numbers-requires c κs = search needs
+
+-- src/main.rt:77:34
+slice-aggregate-write-all-3 : tie.Need-slice-aggregate-write-all-3
+slice-aggregate-write-all-3 c = search needs
+
+-- src/main.rt:77:5
+write-all-requires-3 : tie.Need-write-all-requires-3
+write-all-requires-3 c κs = search needs
+
+-- src/main.rt:78:9
+judge-requires : tie.Need-judge-requires
+judge-requires c κs = search needs
+
+-- src/main.rt:80:38
+slice-aggregate-write-all-4 : tie.Need-slice-aggregate-write-all-4
+slice-aggregate-write-all-4 c = search needs
+
+-- src/main.rt:80:9
+write-all-requires-4 : tie.Need-write-all-requires-4
+write-all-requires-4 c κs = search needs
+
+-- src/main.rt:81:42
+cast-print-decimal : tie.Need-cast-print-decimal
+cast-print-decimal c = search needs
+
+-- src/main.rt:81:9
+print-decimal-requires-2 : tie.Need-print-decimal-requires-2
+print-decimal-requires-2 c κs = search needs
+
+-- src/main.rt:82:38
+slice-aggregate-write-all-5 : tie.Need-slice-aggregate-write-all-5
+slice-aggregate-write-all-5 c = search needs
+
+-- src/main.rt:82:9
+write-all-requires-5 : tie.Need-write-all-requires-5
+write-all-requires-5 c κs = search needs
+
+-- src/main.rt:83:9
+returns-5 : tie.Need-returns-5
+returns-5 c = search needs
+
+-- src/main.rt:85:24
+sub-enclose : tie.Need-sub-enclose
+sub-enclose c = search needs
+
+-- src/main.rt:85:9
+enclose-requires : tie.Need-enclose-requires
+enclose-requires c κs =
+    let s = c .before .before .before .before .before .before .before .before .before .before .before .before .before .before in
+    let x = s .args .x .now in
+    placed (length x - 1) (s .args .fineness) x (omega arith) (omega arith) (omega arith) (omega arith) (omega arith) (sym (c .before .judge .ensures) ∙ c .if5 .left)
+
+-- src/main.rt:86:5
+print-points-requires : tie.Need-print-points-requires
+print-points-requires c κs = search needs
+
+-- src/main.rt:59:1
+returns-6 : tie.Need-returns-6
+returns-6 c = search needs
+
+pub show-spec : {M : Type 1} → statement M
+show-spec =
+    tie.close
+    (tie.spec
+    returns
+    returns-2
+    returns-3
+    returns-4
+    slice-aggregate-write-all
+    write-all-requires
+    print-decimal-requires
+    slice-aggregate-write-all-2
+    write-all-requires-2
+    print-numbers-requires
+    slice-aggregate-write-all-3
+    write-all-requires-3
+    judge-requires
+    slice-aggregate-write-all-4
+    write-all-requires-4
+    cast-print-decimal
+    print-decimal-requires-2
+    slice-aggregate-write-all-5
+    write-all-requires-5
+    returns-5
+    sub-enclose
+    enclose-requires
+    print-points-requires
+    returns-6)

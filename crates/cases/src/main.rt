@@ -1,0 +1,133 @@
+// The small numbers of document 01, run through the compiled library. A position is printed with the
+// points of weight above 0 for it and their weights, or with the number by which it is refused; a
+// quotient with what it is rounded to; a division with its remainder. What this prints is held to
+// the file stdout beside src/, which is written from the document.
+ghost use mathlib.Core.Path.{_≡_};
+ghost use Prim.Native.Nat.{_<_, _≤_};
+ghost use lib.ListN.{length};
+use lattice::position::judge;
+use lattice::simplex::Simplex;
+use lattice::simplex::enclose;
+use libc::STDOUT_FILENO;
+
+fn print_number(x: i32) {
+    io::write_all(STDOUT_FILENO, b" ");
+    if x < 0 {
+        io::write_all(STDOUT_FILENO, b"-");
+    }
+    io::print_decimal(STDOUT_FILENO, whole::words::size_of(x) as u64);
+}
+
+fn print_numbers(xs: &[i32]) {
+    let n = xs.len();
+    for i in 0..n {
+        let x = xs[i];
+        print_number(x);
+    }
+}
+
+// The point in slot k, if there is one: its n coordinates and its weight.
+fn print_slot(s: Simplex, n: usize, k: usize)
+    requires { ⌜ length (s .coords) ≡ 36 ⌝ }
+    requires { ⌜ n ≤ 6 ⌝ }
+    requires { ⌜ k < 6 ⌝ }
+{
+    let weight = s.weights[k];
+    if weight == 0 {
+        return;
+    }
+    let coords = s.coords;
+    let a = 6 * k;
+    let b = a + n;
+    io::write_all(STDOUT_FILENO, b"POINT");
+    print_numbers(&coords[a..b]);
+    io::write_all(STDOUT_FILENO, b" ");
+    io::print_decimal(STDOUT_FILENO, weight as u64);
+    io::write_all(STDOUT_FILENO, b"\n");
+}
+
+fn print_points(s: Simplex, n: usize)
+    requires { ⌜ length (s .coords) ≡ 36 ⌝ }
+    requires { ⌜ n ≤ 6 ⌝ }
+{
+    for k in 0..n {
+        print_slot(s, n, k);
+    }
+}
+
+// A position of two to six coordinates: the points around it, or its refusal.
+fn show(x: &[i32], fineness: u32) {
+    let n = x.len();
+    if n < 2 {
+        return;
+    }
+    if 6 < n {
+        return;
+    }
+    if fineness < 1 {
+        return;
+    }
+    if 64 < fineness {
+        return;
+    }
+    io::write_all(STDOUT_FILENO, b"FINENESS ");
+    io::print_decimal(STDOUT_FILENO, fineness as u64);
+    io::write_all(STDOUT_FILENO, b" POSITION");
+    print_numbers(x);
+    io::write_all(STDOUT_FILENO, b"\n");
+    let number = judge(x);
+    if number != 0 {
+        io::write_all(STDOUT_FILENO, b"REFUSED ");
+        io::print_decimal(STDOUT_FILENO, number as u64);
+        io::write_all(STDOUT_FILENO, b"\n");
+        return;
+    }
+    let s = enclose(x, n - 1, fineness);
+    print_points(s, n);
+}
+
+fn show_rounded(num: i32, den: i32) {
+    if den < 1 {
+        return;
+    }
+    let r = whole::round::round_fraction(num as i64, den as i64);
+    io::write_all(STDOUT_FILENO, b"ROUNDED");
+    print_number(num);
+    print_number(den);
+    print_number(r as i32);
+    io::write_all(STDOUT_FILENO, b"\n");
+}
+
+fn show_remainder(x: i32, m: u32) {
+    if m < 1 {
+        return;
+    }
+    if 1000 < m {
+        return;
+    }
+    let r = whole::division::remainder_of(x, m);
+    io::write_all(STDOUT_FILENO, b"REMAINDER");
+    print_number(x);
+    io::write_all(STDOUT_FILENO, b" ");
+    io::print_decimal(STDOUT_FILENO, m as u64);
+    io::write_all(STDOUT_FILENO, b" ");
+    io::print_decimal(STDOUT_FILENO, r as u64);
+    io::write_all(STDOUT_FILENO, b"\n");
+}
+
+fn main() {
+    show(&[3, -1, -2], 2);
+    show(&[1, 0, -1], 1);
+    show(&[1, 1, -2], 2);
+    show(&[2, 2, -4], 2);
+    show(&[1000000, -1000000], 1);
+    show(&[1000001, 0], 1);
+    show(&[5, -4], 1);
+    show_rounded(3, 2);
+    show_rounded(-3, 2);
+    show_rounded(-1, 2);
+    show_rounded(1, 3);
+    show_rounded(-2, 3);
+    show_remainder(-4, 3);
+    show_remainder(-1, 3);
+}
