@@ -1,18 +1,16 @@
 -- The weight of a corner: W less the greatest remainder of x_i - x_j by W. This is how the program weighs it.
-use mathlib.Core.Path.{_≡_, refl, sym, ap, ap₂, _∙_, subst}
+use mathlib.Core.Path.{_≡_, ap}
 use mathlib.Core.Logic.{_⊎_, inl, inr}
-use mathlib.Core.Bool.{Bool, true, false, cond}
 use native.Mathlib.Omega.{arith}
-use lib.IntN.{ℤ, pos, negsuc, negℤ, natAbs, _+ℤ_, _-ℤ_, _*ℤ_}
-use mathlib.Core.List.{List, [], _∷_}
-use Prim.Native.Nat.{ℕ, zero, suc, _+_, _*_, _-_, _≤_, _<_, max}
-use native.Mathlib.Nat.{eq-or-lt-of-le, le-of-suc-le-suc, le-refl, le-antisymm, mul-pos}
+use lib.IntN.{ℤ, pos, _+ℤ_, _-ℤ_, _*ℤ_}
+use Prim.Native.Nat.{ℕ, zero, suc, _*_, _-_, _≤_, _<_, max}
+use native.Mathlib.Nat.{eq-or-lt-of-le, le-of-suc-le-suc, le-antisymm, mul-pos}
 use native.Mathlib.Decide.{decLe}
-use lib.Signed.{_≤ℤ_, _<ℤ_}
+use lib.Signed.{_≤ℤ_}
 use Rattle.whole.specs.Floor.{floor, remainder}
 use Rattle.whole.specs.Sum.{sum}
 use Rattle.whole.proofs.Linear.{on, difs, ints}
-use Rattle.whole.proofs.Floor.{div-rem, remainder-lt, remainder-is}
+use Rattle.whole.proofs.Floor.{div-rem, remainder-is}
 use Rattle.lattice.specs.Weight.{residual, spread, weight}
 use Rattle.lattice.specs.Points.{cornerAt}
 use Rattle.lattice.specs.Inner.{peak}

@@ -1,25 +1,24 @@
 -- The loop of `enclose`, over plain numbers: what its calls ask and give, from what is asked of a position.
-use mathlib.Core.Path.{_≡_, refl, sym, ap, ap₂, _∙_}
+use mathlib.Core.Path.{_≡_, refl, ap, ap₂, _∙_}
 use mathlib.Core.List.{List}
 use Prim.Native.Nat.{ℕ, zero, suc, _+_, _*_, _-_, _≤_, _<_, max}
 use native.Mathlib.Nat.{mul-le-mul, mul-pos}
 use native.Mathlib.Numerals.{add-one}
 use native.Mathlib.Omega.{arith}
-use lib.IntN.{ℤ, pos, negℤ, _+ℤ_, _-ℤ_, _*ℤ_}
-use lib.ListN.{length, set, replicate}
-use Rattle.whole.specs.Size.{Abs≤}
+use lib.IntN.{ℤ, pos, negℤ, _-ℤ_, _*ℤ_}
+use lib.ListN.{length, replicate}
 use Rattle.whole.specs.Floor.{floor, remainder}
 use Rattle.whole.specs.Sum.{sum}
-use Rattle.whole.specs.Lists.{at, tab, splice}
+use Rattle.whole.specs.Lists.{at, tab}
 use Rattle.whole.proofs.Sum.{sum-cong}
 use Rattle.whole.proofs.Lists.{length-tab}
 use Rattle.lattice.specs.Weight.{W}
-use Rattle.lattice.specs.Points.{spanned, lastOf, cornerOf}
-use Rattle.lattice.specs.Simplex.{Placed, coordIn, slotWeights, slotCoords}
-use Rattle.lattice.specs.Inner.{padded, peak, Total, Part, Parts, coordinate, Near, ResidualsOf, CornerIs, Room}
+use Rattle.lattice.specs.Points.{spanned, lastOf}
+use Rattle.lattice.specs.Simplex.{Placed, slotWeights, slotCoords}
+use Rattle.lattice.specs.Inner.{peak, Total, Parts, coordinate, Near, ResidualsOf, CornerIs, Room}
 use Rattle.lattice.proofs.Splits.{part-of, join-split}
 use Rattle.lattice.proofs.Padding.{at-padded, padded-cong, length-padded}
-use Rattle.lattice.proofs.Slots.{place-in, weights-turn, coords-turn}
+use Rattle.lattice.proofs.Slots.{place-in}
 
 -- ---- a corner depends on the first n coordinates only
 peak-cong : (n : ℕ) (f g : ℕ → ℕ) → ((i : ℕ) → i < n → f i ≡ g i) → peak n f ≡ peak n g

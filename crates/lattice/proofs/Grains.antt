@@ -1,12 +1,10 @@
 -- Grains. A position drops W grains; grain u, measured from the base place b, lands on the lattice point of z_i = ⌊(x_i - x_b + u) / W⌋. Here: that
 -- this is a lattice point, that each lattice point comes from such numbers z, and that grain u lands on y exactly where x_i - x_b - S·(y_i - y_b) + u
 -- is from 0 to W - 1 at every place.
-use mathlib.Core.Path.{_≡_, refl, sym, ap, ap₂, _∙_, subst}
-use mathlib.Core.Logic.{_⊎_, inl, inr}
-use mathlib.Core.Bool.{Bool, true, false, not, cond, _&&_}
+use mathlib.Core.Path.{_≡_, sym, ap, ap₂, _∙_}
+use mathlib.Core.Bool.{Bool, _&&_}
 use native.Mathlib.Omega.{arith}
-use lib.IntN.{ℤ, pos, negsuc, negℤ, natAbs, _+ℤ_, _-ℤ_, _*ℤ_}
-use lib.Signed.{_≤ℤ_, _<ℤ_, leZ, leZ-yes}
+use lib.IntN.{ℤ, pos, negℤ, _+ℤ_, _-ℤ_, _*ℤ_}
 use Prim.Native.Nat.{ℕ, zero, suc, _+_, _*_, _-_, _≤_, _<_}
 use lib.Dec.{T, ltb, leb, ltb→lt, lt→ltb, leb→le, le→leb}
 use Rattle.whole.specs.Size.{P, N}

@@ -1,20 +1,18 @@
 -- Judging a position: each number is met exactly when its condition holds and no earlier one does.
 use mathlib.Core.Path.{_≡_, refl, sym, ap, subst, _∙_}
-use mathlib.Core.Logic.{_↔_}
 use mathlib.Core.Bool.{Bool, true, false}
-use mathlib.Core.List.{List, [], _∷_}
-use Prim.Native.Nat.{ℕ, zero, suc, _+_, _≤_, _<_}
-use native.Mathlib.Decide.{decLe}
+use mathlib.Core.List.{List}
+use Prim.Native.Nat.{ℕ, suc, _≤_, _<_}
 use native.Mathlib.Omega.{arith}
 use lib.IntN.{ℤ, pos, negsuc, natAbs}
 use lib.ListN.{length}
-use lib.Dec.{T, leb, eqb, leb→le, le→leb}
-use borrow.Author.Tests.{leb-true, leb-false, le-leb, lt-leb, eqb-true, eqb-false, eq-eqb, ne-eqb}
-use Rattle.whole.specs.Size.{P, N, Abs≤}
-use Rattle.whole.specs.Sum.{sum, all}
+use lib.Dec.{T, leb, leb→le, le→leb}
+use borrow.Author.Tests.{leb-false, lt-leb, eqb-true, eqb-false, eq-eqb, ne-eqb}
+use Rattle.whole.specs.Size.{Abs≤}
+use Rattle.whole.specs.Sum.{sum}
 use Rattle.whole.specs.Lists.{at}
 use Rattle.whole.proofs.Parts.{natAbs-is}
-use Rattle.whole.proofs.Tests.{all-at, all-of, all-stop, some-false, T-true, T-false}
+use Rattle.whole.proofs.Tests.{all-at, all-of, all-stop, some-false, T-true}
 use Rattle.lattice.specs.Refusals.{first, coordinate-beyond, sum-not-zero}
 use Rattle.lattice.specs.Position.{farthest, Position, allNear, sumsToZero, judged, Judged, JudgedRight}
 use Rattle.lattice.specs.Simplex.{Placed}

@@ -1,20 +1,19 @@
 -- Lists of six places filled from the front, one store a turn; and the greatest of several numbers.
-use mathlib.Core.Path.{_≡_, refl, sym, ap, _∙_}
+use mathlib.Core.Path.{_≡_, refl, sym, _∙_}
 use mathlib.Core.Logic.{_≢_}
-use mathlib.Core.Bool.{true, false, cond}
-use mathlib.Core.List.{List, [], _∷_}
-use Prim.Native.Nat.{ℕ, zero, suc, _+_, _-_, _≤_, _<_, max}
-use native.Mathlib.Numerals.{add-one}
+use mathlib.Core.Bool.{cond}
+use mathlib.Core.List.{List}
+use Prim.Native.Nat.{ℕ, _+_, _≤_, _<_}
 use native.Mathlib.Decide.{decLt}
 use native.Mathlib.Omega.{arith}
 use lib.IntN.{ℤ, pos}
-use lib.ListN.{length, set, getD, replicate, List·getD-eq-default}
-use lib.Dec.{T, ltb, ltb→lt, lt→ltb, nltb→le}
+use lib.ListN.{length, set, replicate, List·getD-eq-default}
+use lib.Dec.{ltb, ltb→lt, lt→ltb}
 use borrow.Author.Tests.{lt-ltb, le-ltb}
 use Rattle.whole.specs.Lists.{at, tab}
 use Rattle.whole.proofs.Tests.{T-ext}
 use Rattle.whole.proofs.Lists.{set-tab, tab-cong, getD-tab, length-tab}
-use Rattle.lattice.specs.Inner.{padded, peak}
+use Rattle.lattice.specs.Inner.{padded}
 
 pub padded-none : (f : ℕ → ℤ) → replicate 6 (pos 0) ≡ padded 0 f
 unfolding padded tab

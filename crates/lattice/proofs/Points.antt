@@ -1,18 +1,18 @@
 -- The list `points`: it has each point of weight above 0 once, in ascending remainder; so the weights sum to W, and weight times point to (d+1)·x.
-use mathlib.Core.Path.{_≡_, refl, sym, ap, ap₂, _∙_, subst}
+use mathlib.Core.Path.{_≡_, refl, sym, ap, _∙_, subst}
 use mathlib.Core.Logic.{_⊎_, inl, inr}
 use mathlib.Core.Bool.{Bool, true, false, cond}
 use native.Mathlib.Omega.{arith}
-use lib.IntN.{ℤ, pos, negsuc, negℤ, natAbs, _+ℤ_, _-ℤ_, _*ℤ_}
-use mathlib.Core.List.{List, [], _∷_, _++_, map, append-nil}
-use Prim.Native.Nat.{ℕ, zero, suc, _+_, _*_, _-_, _≤_, _<_}
+use lib.IntN.{ℤ, pos, _-ℤ_, _*ℤ_}
+use mathlib.Core.List.{List, [], _∷_, _++_, append-nil}
+use Prim.Native.Nat.{ℕ, zero, suc, _≤_, _<_}
 use native.Mathlib.Nat.{not-suc-le-zero, le-of-suc-le-suc, eq-or-lt-of-le, le-refl}
 use native.Mathlib.Decide.{decLt}
 use lib.Signed.{leZ}
 use lib.Dec.{T, eqb, eqb→eq, eqb-refl}
 use lib.ListN.{length, getD, length-append, List·getD-append}
 use lib.Seq.{ext-getD, getD-append-seam}
-use Rattle.whole.specs.Floor.{floor, remainder}
+use Rattle.whole.specs.Floor.{remainder}
 use Rattle.whole.specs.Sum.{sum, over}
 use Rattle.whole.specs.Lists.{at, tab, collect}
 use Rattle.whole.proofs.Floor.{remainder-lt}
@@ -20,7 +20,7 @@ use Rattle.whole.proofs.Sum.{sum-cong, sum-list}
 use Rattle.whole.proofs.Lists.{length-tab, getD-tab}
 use Rattle.lattice.specs.Lattice.{Lattice, Point, remainderOf}
 use Rattle.lattice.specs.Weight.{best, geZ, residual, spread, W, weight}
-use Rattle.lattice.specs.Points.{Points, cornerAt, corner, lastOf, cornerOf, points}
+use Rattle.lattice.specs.Points.{Points, cornerAt, corner, lastOf, points}
 use Rattle.lattice.specs.Theorems.{OneOfEach, ExactlyThese, WeightsSum, Moment}
 use Rattle.lattice.proofs.Corners.{corner-lattice as Corners·lattice, corner-weight as Corners·weight, a-corner as Corners·a-corner, one-each, weights, moment}
 

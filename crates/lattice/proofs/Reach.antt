@@ -1,23 +1,18 @@
 -- Reach: a point of weight above 0 has every |x_i - S·y_i| below W, since those sum to 0; so its coordinates are within ±1,000,005.
-use mathlib.Core.Path.{_≡_, refl, sym, ap, ap₂, _∙_, subst}
-use mathlib.Core.Logic.{_⊎_, inl, inr}
-use mathlib.Core.Bool.{Bool, true, false, cond}
+use mathlib.Core.Path.{_≡_, refl, ap, _∙_}
 use native.Mathlib.Omega.{arith}
-use lib.IntN.{ℤ, pos, negsuc, negℤ, natAbs, _+ℤ_, _-ℤ_, _*ℤ_}
-use mathlib.Core.List.{List}
-use Prim.Native.Nat.{ℕ, zero, suc, _+_, _*_, _-_, _≤_, _<_}
+use lib.IntN.{ℤ, pos, negsuc, negℤ, _+ℤ_, _-ℤ_, _*ℤ_}
+use Prim.Native.Nat.{ℕ, zero, suc, _+_, _*_, _≤_, _<_}
 use native.Mathlib.Nat.{le-of-mul-le-mul-left, mul-le-mul-left, mul-le-mul-right}
 use native.Mathlib.Decide.{decLe}
-use lib.Signed.{_≤ℤ_, _<ℤ_}
+use lib.Signed.{_≤ℤ_}
 use Rattle.whole.specs.Size.{P, N, Abs≤}
 use Rattle.whole.specs.Sum.{sum}
 use Rattle.whole.specs.Lists.{at}
-use Rattle.whole.proofs.Parts.{add-is, mul-is, P-neg, N-neg, le-in, le-out}
+use Rattle.whole.proofs.Parts.{add-is, mul-is, P-neg, N-neg}
 use Rattle.whole.proofs.Linear.{on, difs, ints, dif-le}
 use Rattle.whole.proofs.Sum.{sum-add, sum-mul, sum-neg, sum-const, sum-le}
-use Rattle.lattice.specs.Lattice.{Point}
 use Rattle.lattice.specs.Weight.{residual, spread, weight}
-use Rattle.lattice.specs.Position.{Position}
 use Rattle.lattice.specs.Theorems.{Reach}
 use Rattle.lattice.proofs.Spread.{Spread, spread-is, mono-P, mono-N}
 

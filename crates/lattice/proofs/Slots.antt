@@ -1,33 +1,28 @@
 -- The slots of the enclosing simplex: what putting the corner of one more place makes of them, and that they hold the points of weight above 0.
-use mathlib.Core.Path.{_≡_, refl, sym, ap, ap₂, subst, _∙_}
+use mathlib.Core.Path.{_≡_, refl, sym, ap, ap₂, _∙_}
 use mathlib.Core.Logic.{_⊎_, inl, inr, _≢_}
-use mathlib.Core.Bool.{Bool, true, false, cond}
-use mathlib.Core.List.{List, [], _∷_, _++_, map}
-use Prim.Native.Nat.{ℕ, zero, suc, _+_, _*_, _-_, _/_, _%_, _≤_, _<_, max}
-use native.Mathlib.Nat.{le-refl, eq-or-lt-of-le, le-of-suc-le-suc}
-use native.Mathlib.Numerals.{add-one}
-use native.Mathlib.Decide.{decLt, decLe}
+use mathlib.Core.List.{List, [], _∷_, map}
+use Prim.Native.Nat.{ℕ, suc, _+_, _*_, _-_, _/_, _%_, _≤_, _<_}
+use native.Mathlib.Nat.{le-refl}
+use native.Mathlib.Decide.{decLt}
 use native.Mathlib.Omega.{arith}
-use lib.IntN.{ℤ, pos, negℤ, _+ℤ_, _-ℤ_, _*ℤ_}
-use lib.Dec.{eqb, ltb}
-use lib.ListN.{length, getD, set, List·getD-eq-default}
-use borrow.Author.Tests.{eq-eqb, ne-eqb, lt-ltb, le-ltb}
+use lib.IntN.{ℤ, pos, _-ℤ_}
+use lib.ListN.{length, getD, set}
+use borrow.Author.Tests.{eq-eqb, ne-eqb}
 use Rattle.whole.specs.Floor.{floor, remainder}
-use Rattle.whole.specs.Sum.{sum}
-use Rattle.whole.specs.Lists.{at, tab, collect, splice}
+use Rattle.whole.specs.Lists.{at, tab, splice}
 use Rattle.whole.proofs.Floor.{remainder-lt}
-use Rattle.whole.proofs.Sum.{sum-cong}
-use Rattle.whole.proofs.Lists.{length-tab, getD-tab, set-tab, tab-is, tab-cong, length-splice, getD-splice-before, getD-splice-in, getD-splice-after, collect-cong, map-collect}
+use Rattle.whole.proofs.Lists.{length-tab, getD-tab, set-tab, tab-is, length-splice, getD-splice-before, getD-splice-in, getD-splice-after, collect-cong, map-collect}
 use Rattle.lattice.specs.Lattice.{remainderOf}
 use Rattle.lattice.specs.Weight.{W, weight}
-use Rattle.lattice.specs.Points.{spanned, cornerAt, corner, lastOf, cornerOf, points, weighed}
+use Rattle.lattice.specs.Points.{cornerAt, corner, lastOf, cornerOf, points, weighed}
 use Rattle.lattice.specs.Simplex.{weightIn, coordIn, slotWeights, slotCoords, Encloses, slot}
-use Rattle.lattice.specs.Inner.{padded, peak, CornerIs}
+use Rattle.lattice.specs.Inner.{padded, CornerIs}
 use Rattle.lattice.specs.Theorems.{SlotsAreThePoints}
 use Rattle.lattice.proofs.Grains.{spanned-remainder}
 use Rattle.lattice.proofs.Points.{weight-cong, corner-at, corner-point, corner-weight, found}
 use Rattle.lattice.proofs.CornerWeight.{corner-weighs}
-use Rattle.lattice.proofs.Padding.{padded-cong, padded-tab, length-padded}
+use Rattle.lattice.proofs.Padding.{padded-tab, length-padded}
 
 -- ---- one corner more
 corner-more : (d S : ℕ) (x : List ℤ) (j k : ℕ) → remainderOf d (at (corner d S x j)) ≡ k → cornerOf d S x (suc j) k ≡ corner d S x j ∷ []

@@ -1,12 +1,12 @@
 -- Splits of a number by W, into floor and remainder: which pair it is, and the split of a difference from those of its sides.
-use mathlib.Core.Path.{_≡_, sym, ap, _∙_}
-use Prim.Native.Nat.{ℕ, zero, suc, _+_, _*_, _-_, _≤_, _<_}
+use mathlib.Core.Path.{_≡_, sym, ap}
+use Prim.Native.Nat.{ℕ, _<_}
 use native.Mathlib.Omega.{arith}
-use lib.IntN.{ℤ, pos, negsuc, negℤ, _+ℤ_, _-ℤ_, _*ℤ_}
+use lib.IntN.{ℤ, pos, negsuc, _+ℤ_, _-ℤ_, _*ℤ_}
 use lib.Signed.{_≤ℤ_, _<ℤ_}
-use Rattle.whole.specs.Size.{P, N, Abs≤}
+use Rattle.whole.specs.Size.{Abs≤}
 use Rattle.whole.specs.Floor.{floor, remainder}
-use Rattle.whole.proofs.Parts.{zin, zout, lt-in}
+use Rattle.whole.proofs.Parts.{zin, zout}
 use Rattle.whole.proofs.Linear.{on, difs, ints}
 use Rattle.whole.proofs.Floor.{div-rem, remainder-lt, floor-is, remainder-is, floor-p, floor-n}
 use Rattle.lattice.specs.Position.{farthest}

@@ -1,11 +1,11 @@
 -- What the greatest, the least and their difference are; and that the weight of a point is the number of grains that land on it: the grains inside
 -- its window, from the least residual to the greatest.
-use mathlib.Core.Path.{_≡_, refl, sym, ap, ap₂, _∙_, subst}
+use mathlib.Core.Path.{_≡_, refl, ap, _∙_}
 use mathlib.Core.Logic.{_⊎_, inl, inr}
-use mathlib.Core.Bool.{Bool, true, false, not, cond, _&&_}
+use mathlib.Core.Bool.{Bool, true, false, cond}
 use native.Mathlib.Omega.{arith}
 use lib.IntN.{ℤ, pos, negsuc, negℤ, natAbs, _+ℤ_, _-ℤ_, _*ℤ_}
-use lib.Signed.{_≤ℤ_, _<ℤ_, leZ, leZ-yes}
+use lib.Signed.{_≤ℤ_, leZ, leZ-yes}
 use Prim.Native.Nat.{ℕ, zero, suc, _+_, _*_, _-_, _≤_, _<_, min}
 use native.Mathlib.Nat.{le-refl, eq-or-lt-of-le, le-of-suc-le-suc}
 use native.Mathlib.Decide.{decLt, decLe}
@@ -16,7 +16,7 @@ use Rattle.whole.proofs.Parts.{eq-in, add-is, le-in, le-out, P-neg, N-neg}
 use Rattle.whole.proofs.Linear.{on, difs, ints}
 use Rattle.whole.proofs.Tests.{all-at, all-of, and-l, and-r, and-i}
 use Rattle.whole.proofs.Sum.{pick}
-use Rattle.lattice.specs.Weight.{best, geZ, greatest, least, residual, spread, weight}
+use Rattle.lattice.specs.Weight.{best, geZ, residual, spread, weight}
 use Rattle.lattice.proofs.Grains.{inside, off, lands}
 
 -- ---- what the greatest and the least are

@@ -2,22 +2,21 @@
 use mathlib.Core.Path.{_≡_, refl, sym, ap, ap₂, _∙_}
 use mathlib.Core.Logic.{_⊎_, inl, inr}
 use mathlib.Core.List.{List}
-use Prim.Native.Nat.{ℕ, zero, suc, _+_, _*_, _-_, _≤_, _<_, max}
+use Prim.Native.Nat.{ℕ, zero, suc, _+_, _-_, _≤_, _<_, max}
 use native.Mathlib.Numerals.{add-one}
 use native.Mathlib.Omega.{arith}
-use lib.IntN.{ℤ, pos, negsuc, negℤ, _+ℤ_, _-ℤ_, _*ℤ_}
+use lib.IntN.{ℤ, pos, negℤ, _+ℤ_, _-ℤ_, _*ℤ_}
 use lib.Signed.{_≤ℤ_, _<ℤ_}
 use lib.Dec.{lit<}
 use lib.ListN.{set, replicate}
-use mir.Syntax.{w32}
-use mir.Val.{SFits, toZ, ofZ}
-use Rattle.whole.specs.Size.{P, N, Abs≤, Within}
+use Rattle.whole.specs.Size.{P, Abs≤, Within}
 use Rattle.whole.specs.Floor.{floor, remainder}
 use Rattle.whole.specs.Sum.{sum}
 use Rattle.whole.specs.Lists.{at}
 use Rattle.whole.proofs.Parts.{zin, zout}
 use Rattle.whole.proofs.Readings.{zlin, W32}
-use Rattle.whole.proofs.Ring.{zabs, back32, le-or-lt}
+use Rattle.whole.proofs.Ring.{le-or-lt}
+use Rattle.whole.proofs.Size.{zabs, back32}
 use Rattle.whole.proofs.Floor.{remainder-lt}
 use Rattle.whole.proofs.Sum.{sum-more, sum-abs}
 use Rattle.lattice.specs.Points.{spanned}

@@ -49,6 +49,14 @@ pub record Parts (w n : ℕ) (floors rests : List ℤ) : Type 0 where
   pub few : n ≤ 6
   pub part : (i : ℕ) → i < n → Part w (at floors i) (at rests i)
 
+-- two of the splits
+pub record Between (w : ℕ) (floors rests : List ℤ) (i j : ℕ) : Type 0 where
+  pub total : Total w
+  pub i-in : i < 6
+  pub j-in : j < 6
+  pub here : Part w (at floors i) (at rests i)
+  pub base : Part w (at floors j) (at rests j)
+
 -- the coordinates that they are of
 abbrev pub coordinate : ℕ → List ℤ → List ℤ → ℕ → ℤ
 coordinate w floors rests i = joined w (at floors i) (at rests i)

@@ -7,7 +7,7 @@ use lib.IntN.{ℤ, pos}
 use lib.ListN.{length, getD}
 use lib.Dec.{eqb}
 use Rattle.whole.specs.Size.{Abs≤}
-use Rattle.whole.specs.Lists.{at, tab, collect}
+use Rattle.whole.specs.Lists.{at, tab}
 use Rattle.lattice.specs.Weight.{weight}
 use Rattle.lattice.specs.Points.{cornerOf}
 use Rattle.lattice.specs.Position.{farthest}

@@ -1,7 +1,6 @@
 -- The starred weights of document 01's "Small numbers to check by hand".
 use mathlib.Core.Path.{_≡_}
 use mathlib.Core.List.{List, [], _∷_}
-use Prim.Native.Nat.{ℕ}
 use lib.IntN.{ℤ, pos, negsuc}
 use Rattle.whole.specs.Lists.{at}
 use Rattle.lattice.specs.Weight.{weight}

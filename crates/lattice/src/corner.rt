@@ -5,8 +5,7 @@ ghost use lib.IntN.{pos, natAbs, _-ℤ_, _*ℤ_};
 ghost use Rattle.whole.specs.Lists.{at};
 ghost use Rattle.lattice.specs.Inner.{Parts, coordinate, padded, StepsFrom, Span, CornerIs};
 use crate::residual::Residuals;
-use crate::residual::Split;
-use crate::residual::minus;
+use crate::residual::difference;
 
 // The floors z of the differences from one place, their sum, and the greatest of the remainders.
 struct Steps {
@@ -33,21 +32,11 @@ fn steps_from(res: Residuals, n: usize, w: u32, j: usize) -> Steps
     requires { ⌜ j < n ⌝ }
     ensures { λ r. ⌜ StepsFrom w n (coordinate w (res .floors) (res .rests)) j (r .z) (r .total) (pos (r .spread)) ⌝ }
 {
-    let floors = res.floors;
-    let rests = res.rests;
-    let base = Split {
-        floor: floors[j],
-        rest: rests[j],
-    };
     let mut z = [0i32; 6];
     let mut total = 0;
     let mut spread = 0;
     for i in 0..n {
-        let here = Split {
-            floor: floors[i],
-            rest: rests[i],
-        };
-        let s = minus(here, base, w);
+        let s = difference(res, i, j, w);
         let q = s.floor;
         z[i] = q;
         total = total + q;

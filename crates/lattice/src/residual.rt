@@ -3,7 +3,7 @@ ghost use lib.IntN.{_-ℤ_};
 ghost use lib.ListN.{length};
 ghost use Rattle.whole.specs.Size.{Abs≤};
 ghost use Rattle.lattice.specs.Position.{farthest};
-ghost use Rattle.lattice.specs.Inner.{Total, SplitOf, joined, Part, Near, ResidualsOf};
+ghost use Rattle.lattice.specs.Inner.{Total, SplitOf, joined, Part, Between, coordinate, Near, ResidualsOf};
 
 // x = w * floor + rest, with rest from 0 to w - 1.
 pub struct Split {
@@ -51,7 +51,7 @@ pub fn residuals_of(x: &[i32], w: u32) -> Residuals
 
 // The split of a difference, from those of its two sides: one W is borrowed where the remainder is
 // less.
-pub fn minus(a: Split, b: Split, w: u32) -> Split
+fn minus(a: Split, b: Split, w: u32) -> Split
     requires { ⌜ Total w ⌝ }
     requires { ⌜ Part w (a .floor) (a .rest) ⌝ }
     requires { ⌜ Part w (b .floor) (b .rest) ⌝ }
@@ -67,4 +67,22 @@ pub fn minus(a: Split, b: Split, w: u32) -> Split
     } else {
         Split { floor: q, rest: r }
     }
+}
+
+// The split of x[i] - x[j], from the residual of x.
+pub fn difference(res: Residuals, i: usize, j: usize, w: u32) -> Split
+    requires { ⌜ Between w (res .floors) (res .rests) i j ⌝ }
+    ensures { λ r. ⌜ SplitOf w (coordinate w (res .floors) (res .rests) i -ℤ coordinate w (res .floors) (res .rests) j) (r .floor) (r .rest) ⌝ }
+{
+    let floors = res.floors;
+    let rests = res.rests;
+    let here = Split {
+        floor: floors[i],
+        rest: rests[i],
+    };
+    let base = Split {
+        floor: floors[j],
+        rest: rests[j],
+    };
+    minus(here, base, w)
 }

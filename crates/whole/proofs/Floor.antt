@@ -1,24 +1,18 @@
 -- Floor and remainder: that they are the one pair with z = m·q + r and 0 ≤ r < m, their orders, and how the machine's quotient and remainder,
 -- which go towards zero, give them. Assumes nothing.
-use mathlib.Core.Path.{_≡_, refl, sym, _∙_, ap, ap₂}
+use mathlib.Core.Path.{_≡_, sym, _∙_, ap}
 use mathlib.Core.Logic.{⊎-elim}
-use Prim.Native.Nat.{ℕ, zero, suc, _+_, _*_, _-_, _/_, _%_, _<_, _≤_}
-use native.Mathlib.Nat.{mul-le-mul-left, mod-lt, div-add-mod', div-le-self, div-lt-self, div-le-of-le-mul}
+use Prim.Native.Nat.{ℕ, suc, _-_, _/_, _%_, _<_, _≤_}
+use native.Mathlib.Nat.{mul-le-mul-left, mod-lt, div-add-mod', div-le-self, div-lt-self}
 use native.Mathlib.Omega.{arith}
-use lib.IntN.{ℤ, pos, negsuc, negℤ, natAbs, _+ℤ_, _-ℤ_, _*ℤ_}
-use lib.Signed.{_≤ℤ_, _<ℤ_, quotZ, remZ, shrZ}
+use lib.IntN.{ℤ, pos, negsuc, natAbs, _+ℤ_, _-ℤ_, _*ℤ_}
+use lib.Signed.{_≤ℤ_, _<ℤ_, quotZ, remZ}
 use Rattle.whole.specs.Size.{P, N, Abs≤}
-use Rattle.whole.specs.Floor.{floor, remainder, Divided, DividedBy, DividedOnce}
-use Rattle.whole.proofs.Parts.{le-in, lt-in, zin, zout}
+use Rattle.whole.specs.Floor.{floor, remainder, DividedBy, DividedOnce}
+use Rattle.whole.proofs.Parts.{N-neg, le-in, lt-in, zin, zout}
 use Rattle.whole.proofs.Linear.{on, difs, ints}
-use Rattle.whole.proofs.Readings.{zed, zle, zlt, zeq, ole, olt, oeq, sizes}
-use Rattle.whole.proofs.Ring.{le-or-lt, size, neg-part, nonneg-N, negative-P}
-
--- `>>` of a signed number rounds down
-pub shr-is : (z : ℤ) (m : ℕ) → shrZ z m ≡ floor z m
-unfolding floor
-shr-is (pos a) m = refl
-shr-is (negsuc a) m = refl
+use Rattle.whole.proofs.Readings.{zed, zlt, zeq, ole, olt, oeq, sizes}
+use Rattle.whole.proofs.Ring.{le-or-lt, nonneg-N, negative-P}
 
 pub remainder-lt : (z : ℤ) (m : ℕ) → 0 < m → remainder z m < m
 unfolding remainder
@@ -58,39 +52,11 @@ div-unique z q m r h e = (same, rest same)
     rest : q ≡ floor z m → r ≡ remainder z m
     rest g = omega (arith, oeq (ap (λ (x : ℤ). pos m *ℤ x +ℤ pos r) (sym g) ∙ both) (search zed depth 14) (omega arith))
 
--- ════ the machine's quotient and remainder, by a positive divisor
-unit : {d : ℤ} → pos 1 ≤ℤ d → (m : ℕ) × (d ≡ pos m) × (0 < m)
-unit {d = pos m} h = (m, refl, omega (arith, le-in (pos 1) (pos m) h))
-unit {d = negsuc m} h = absurd (h .le)
-
-pub quot-rem : (x : ℤ) (m : ℕ) → x ≡ pos m *ℤ quotZ x (pos m) +ℤ remZ x (pos m)
+-- ════ the machine's quotient and remainder by a positive divisor, and from them to the floor
+quot-rem : (x : ℤ) (m : ℕ) → x ≡ pos m *ℤ quotZ x (pos m) +ℤ remZ x (pos m)
 quot-rem (pos a) m = zeq (search zed depth 14) (omega (arith, div-add-mod' a m))
 quot-rem (negsuc a) m = zeq (search zed depth 14) (omega (arith, div-add-mod' (suc a) m))
 
--- the remainder's size, and its sign is the dividend's; the quotient is no larger than the dividend
-pub rem-small : (x : ℤ) (m : ℕ) → 0 < m → P (remZ x (pos m)) + N (remZ x (pos m)) < m
-rem-small (pos a) m h = omega (arith, mod-lt a h)
-rem-small (negsuc a) m h = omega (arith, mod-lt (suc a) h, size (suc a % m))
-
-pub quot-p : (x : ℤ) (m : ℕ) → P (quotZ x (pos m)) ≤ P x
-quot-p (pos a) m = div-le-self a m
-quot-p (negsuc a) m = omega (arith, neg-part (suc a / m))
-
-pub quot-n : (x : ℤ) (m : ℕ) → N (quotZ x (pos m)) ≤ N x
-quot-n (pos a) m = omega arith
-quot-n (negsuc a) m = omega (arith, div-le-self (suc a) m, size (suc a / m))
-
-pub floor-p : (x : ℤ) (m : ℕ) → P (floor x m) ≤ P x
-unfolding floor
-floor-p (pos a) m = div-le-self a m
-floor-p (negsuc a) m = omega arith
-
-pub floor-n : (x : ℤ) (m : ℕ) → N (floor x m) ≤ N x
-unfolding floor
-floor-n (pos a) m = omega arith
-floor-n (negsuc a) m = omega (arith, div-le-self a m)
-
--- from them to the floor
 pub floor-pos : (x d : ℤ) → pos 1 ≤ℤ d → pos 0 ≤ℤ remZ x d → (quotZ x d ≡ floor x (natAbs d)) × (remZ x d ≡ pos (remainder x (natAbs d)))
 floor-pos x (negsuc m) h k = absurd (h .le)
 floor-pos x (pos m) h k = (u .0, sym r ∙ ap pos (u .1))
@@ -102,7 +68,7 @@ floor-pos x (pos m) h k = (u .0, sym r ∙ ap pos (u .1))
     r = omega (arith, zout, nonneg-N k)
 
     u : (quotZ x (pos m) ≡ floor x m) × (P (remZ x (pos m)) ≡ remainder x m)
-    u = div-unique x (quotZ x (pos m)) m (P (remZ x (pos m))) (omega (arith, rem-small x m m⁺)) (quot-rem x m ∙ ap (λ (y : ℤ). pos m *ℤ quotZ x (pos m) +ℤ y) (sym r))
+    u = div-unique x (quotZ x (pos m)) m (P (remZ x (pos m))) (omega (arith, sizes x (pos m) h .rem-lt)) (quot-rem x m ∙ ap (λ (y : ℤ). pos m *ℤ quotZ x (pos m) +ℤ y) (sym r))
 
 pub record FloorNeg (x d : ℤ) : Type 0 where
   pub quot-is : quotZ x d -ℤ pos 1 ≡ floor x (natAbs d)
@@ -112,7 +78,7 @@ pub record FloorNeg (x d : ℤ) : Type 0 where
 quot-less : (x : ℤ) (m : ℕ) → 0 < m → remZ x (pos m) <ℤ pos 0 → N (quotZ x (pos m)) < N x
 quot-less (pos a) m h k = let z : ⊥ = omega (arith, zin) in absurd z
 quot-less (negsuc a) m h k = let t = lt-in (remZ (negsuc a) (pos m)) (pos 0) k in
-    omega (arith, size (suc a / m), div-lt-self {n = suc a} {k = m} (omega arith) (omega (arith, mod-lt (suc a) h, size (suc a % m))))
+    omega (arith, N-neg (pos (suc a / m)), div-lt-self {n = suc a} {k = m} (omega arith) (omega (arith, mod-lt (suc a) h, N-neg (pos (suc a % m)))))
 
 pub floor-neg : (x d : ℤ) → pos 1 ≤ℤ d → remZ x d <ℤ pos 0 → FloorNeg x d
 floor-neg x (negsuc m) h k = absurd (h .le)
@@ -122,21 +88,27 @@ floor-neg x (pos m) h k = record { quot-is = u .0; rem-is = r ∙ ap pos (u .1);
     m⁺ = omega (arith, le-in (pos 1) (pos m) h)
 
     r : remZ x (pos m) +ℤ pos m ≡ pos (m - N (remZ x (pos m)))
-    r = zeq (search zed depth 14) (omega (arith, rem-small x m m⁺, negative-P k))
+    r = zeq (search zed depth 14) (omega (arith, sizes x (pos m) h .rem-lt, negative-P k))
 
     u : (quotZ x (pos m) -ℤ pos 1 ≡ floor x m) × (m - N (remZ x (pos m)) ≡ remainder x m)
     u = div-unique x (quotZ x (pos m) -ℤ pos 1) m (m - N (remZ x (pos m))) (omega (arith, zin, lt-in (remZ x (pos m)) (pos 0) k))
-        (quot-rem x m ∙ zeq (search zed depth 14) (omega (arith, rem-small x m m⁺, negative-P k)))
+        (quot-rem x m ∙ zeq (search zed depth 14) (omega (arith, sizes x (pos m) h .rem-lt, negative-P k)))
 
+-- a quotient is no larger than what is divided
 pub quot-abs : {a d : ℤ} {B : ℕ} → Abs≤ a B → pos 1 ≤ℤ d → Abs≤ (quotZ a d) B
 quot-abs {a} {d} h k = let s = sizes a d k in record { abs = omega arith }
 
--- by a literal: |a| ≤ B, and |a / m| ≤ B / m
-pub quot-abs-lit : {a : ℤ} {B D : ℕ} (m : ℕ) → Abs≤ a B → B ≤ m * D → Abs≤ (quotZ a (pos m)) D
-quot-abs-lit {a = pos a} {B} {D} m h t = record { abs = omega (arith, div-le-of-le-mul m {m = a} {n = D} (omega arith)) }
-quot-abs-lit {a = negsuc a} {B} {D} m h t = record { abs = omega (arith, size (suc a / m), div-le-of-le-mul m {m = suc a} {n = D} (omega arith)) }
+-- ════ the floor's size and order
+pub floor-p : (x : ℤ) (m : ℕ) → P (floor x m) ≤ P x
+unfolding floor
+floor-p (pos a) m = div-le-self a m
+floor-p (negsuc a) m = omega arith
 
--- ════ the floor's order, and remainders of sums and products
+pub floor-n : (x : ℤ) (m : ℕ) → N (floor x m) ≤ N x
+unfolding floor
+floor-n (pos a) m = omega arith
+floor-n (negsuc a) m = omega (arith, div-le-self a m)
+
 pub floor-ge : (x lo : ℤ) (m : ℕ) → 0 < m → (pos m *ℤ lo) ≤ℤ x → lo ≤ℤ floor x m
 floor-ge x lo m h b = ⊎-elim (λ l. l) (λ g. absurd (bad g)) (le-or-lt lo (floor x m))
   where
@@ -151,25 +123,6 @@ floor-lt x hi m h b = ⊎-elim (λ g. absurd (bad g)) (λ l. l) (le-or-lt hi (fl
 
 pub remainder-shift : (x k : ℤ) (m : ℕ) → 0 < m → remainder (x +ℤ pos m *ℤ k) m ≡ remainder x m
 remainder-shift x k m h = sym (div-unique (x +ℤ pos m *ℤ k) (floor x m +ℤ k) m (remainder x m) (remainder-lt x m h) (zeq (search zed depth 14) (omega (arith, oeq (div-rem x m h) (search zed depth 14) (omega arith)))) .1)
-
-pub remainder-plus : (x y : ℤ) (m : ℕ) → 0 < m → remainder (x +ℤ y) m ≡ (remainder x m + remainder y m) % m
-remainder-plus x y m h = sym (div-unique (x +ℤ y) (floor x m +ℤ floor y m +ℤ pos ((remainder x m + remainder y m) / m)) m ((remainder x m + remainder y m) % m) (mod-lt (remainder x m + remainder y m) h)
-    (zeq (search zed depth 14) (omega (arith, oeq (div-rem x m h) (search zed depth 14) (omega arith), oeq (div-rem y m h) (search zed depth 14) (omega arith), div-add-mod' (remainder x m + remainder y m) m))) .1)
-
-pub remainder-times : (x y : ℤ) (m : ℕ) → 0 < m → remainder (x *ℤ y) m ≡ (remainder x m * remainder y m) % m
-remainder-times x y m h = ap (λ (z : ℤ). remainder z m) split ∙ sym (div-unique (t x *ℤ t y) q m ((remainder x m * remainder y m) % m) (mod-lt (remainder x m * remainder y m) h) prod .1)
-  where
-    t : ℤ → ℤ
-    t z = pos m *ℤ floor z m +ℤ pos (remainder z m)
-
-    split : x *ℤ y ≡ t x *ℤ t y
-    split = ap₂ _*ℤ_ (div-rem x m h) (div-rem y m h)
-
-    q : ℤ
-    q = pos m *ℤ floor x m *ℤ floor y m +ℤ floor x m *ℤ pos (remainder y m) +ℤ floor y m *ℤ pos (remainder x m) +ℤ pos ((remainder x m * remainder y m) / m)
-
-    prod : t x *ℤ t y ≡ pos m *ℤ q +ℤ pos ((remainder x m * remainder y m) % m)
-    prod = zeq (search zed depth 14) (omega (arith, div-add-mod' (remainder x m * remainder y m) m))
 
 -- ════ the statements of specs/, and the laws by which callers use them
 pub divided : DividedBy

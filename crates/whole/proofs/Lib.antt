@@ -2,6 +2,7 @@ pub mod Parts
 pub mod Linear
 pub mod Readings
 pub mod Ring
+pub mod Size
 pub mod Floor
 pub mod Rounding
 pub mod Tests

@@ -2,7 +2,7 @@
 -- a difference or a product one difference, and `omega ints` does the rest:
 --     law n = on _ λ p m. on _ λ q r. simp difs (omega ints)
 -- It proves ring identities and linear goals with their hypotheses. ℕ arguments come first. Assumes nothing.
-use mathlib.Core.Path.{_≡_, refl, sym, ap, ap₂, _∙_, subst}
+use mathlib.Core.Path.{_≡_, sym, ap, subst}
 use Prim.Native.Nat.{ℕ, suc, _+_, _*_, _≤_, _<_}
 use native.Mathlib.Omega.{arith}
 use lib.IntN.{ℤ, pos, negsuc, negℤ, _+ℤ_, _*ℤ_, subℕ}

@@ -2,14 +2,14 @@
 -- p - n for two sums of natural numbers by `search zlin depth 14`; a comparison of two readings is one of natural numbers, which
 -- `omega (arith, zin)` proves with all that the passes through bits ask (`Holds`). With S = (search zlin depth 14), O = (omega (arith, zin)):
 --     zle S O, zlt S O, zeq S O      goals a ≤ℤ b, a <ℤ b, a ≡ b
---     zfits S O, zwithin S O         goals SFits w a, Within lo hi a;    Ring.zabs S O: the goal Abs≤ a B
+--     zfits S O, zwithin S O         goals SFits w a, Within lo hi a;    Size.zabs S O: the goal Abs≤ a B
 --     zcast S O                      what `as` from signed to unsigned asks
 --     ole, olt, oeq                  facts a ≤ℤ b, a <ℤ b, a ≡ b as facts of natural numbers, for omega's list
 --     t<, t≥, t≤, t>                 a test that passed or failed, as an order of the numbers that the code means
 --     bk, bits-eq, bits-ne           a number and its bits
 -- The rulesets: zlin takes a product as an atom, and one with a literal as linear; zed multiplies out; zlow also reads a number that was
 -- cast from unsigned; zdeep goes to 20 levels; zord is for numbers that are only passed on and tested. Assumes nothing.
-use mathlib.Core.Path.{_≡_, refl, sym, _∙_, ap, ap₂, subst}
+use mathlib.Core.Path.{_≡_, refl, sym, _∙_, ap, ap₂}
 use mathlib.Core.Logic.{_≢_}
 use Prim.Native.Nat.{ℕ, zero, suc, _+_, _*_, _-_, _/_, _%_, _<_, _≤_, _^_}
 use native.Mathlib.Nat.{div-le-self, mod-lt}
@@ -22,7 +22,7 @@ use mir.Syntax.{Width, w32, w64}
 use mir.Val.{SFits, Fits, toZ, ofZ, bits, hbits}
 use mir.ValLaws.{toZ-ofZ, toZ-pos}
 use Rattle.whole.specs.Size.{P, N, Within}
-use Rattle.whole.proofs.Parts.{sub-is, add-is, neg-is, mul-is, natAbs-is, apart, le-in, le-out, lt-in, lt-out, eq-in, eq-out, sfits-in, sfits-make, lt-yes, lt-no, le-yes, le-no, zin, zout}
+use Rattle.whole.proofs.Parts.{sub-is, add-is, neg-is, mul-is, natAbs-is, apart, le-in, le-out, lt-in, lt-out, eq-in, eq-out, sfits-make, lt-yes, lt-no, le-yes, le-no, zin}
 
 -- ════ a reading of a number z: v is z without its passes through bits, and p − n is v. `asks` is what must hold for that: each number that went through bits fits
 pub data Asks : Type 0 where
@@ -146,7 +146,7 @@ r-back k w z x = let e = x .r in
       };
     }
 
--- a sum, a difference, a product, multiplied out or as an atom, the machine's quotient and remainder, as atoms
+-- a sum, a difference, a product multiplied out
 abbrev pub r-plus : (k : Fuel) (a b : ℤ) → R k a → R k b → R (s k) (a +ℤ b)
 r-plus k a b x y = let e = x .r in let f = y .r in
     record {
@@ -186,44 +186,28 @@ r-times k a b x y = let e = x .r in let f = y .r in
       };
     }
 
-abbrev pub r-prod : (k : Fuel) (a b : ℤ) → R k a → R k b → R (s k) (a *ℤ b)
-r-prod k a b x y = let e = x .r in let f = y .r in
+-- any operation on two numbers, as an atom
+abbrev both : (f : ℤ → ℤ → ℤ) (k : Fuel) (a b : ℤ) → R k a → R k b → R (s k) (f a b)
+both f k a b x y = let e = x .r in let g = y .r in
     record {
       r = record {
-        v = e .v *ℤ f .v;
-        p = P (e .v *ℤ f .v);
-        n = N (e .v *ℤ f .v);
-        asks = e .asks ⊕ f .asks;
-        same = λ h. ap₂ _*ℤ_ (e .same (left (e .asks) (f .asks) h)) (f .same (right (e .asks) (f .asks) h));
+        v = f (e .v) (g .v);
+        p = P (f (e .v) (g .v));
+        n = N (f (e .v) (g .v));
+        asks = e .asks ⊕ g .asks;
+        same = λ h. ap₂ f (e .same (left (e .asks) (g .asks) h)) (g .same (right (e .asks) (g .asks) h));
         is = λ h. refl;
       };
     }
+
+abbrev pub r-prod : (k : Fuel) (a b : ℤ) → R k a → R k b → R (s k) (a *ℤ b)
+r-prod k a b x y = both _*ℤ_ k a b x y
 
 abbrev pub r-quot : (k : Fuel) (a b : ℤ) → R k a → R k b → R (s k) (quotZ a b)
-r-quot k a b x y = let e = x .r in let f = y .r in
-    record {
-      r = record {
-        v = quotZ (e .v) (f .v);
-        p = P (quotZ (e .v) (f .v));
-        n = N (quotZ (e .v) (f .v));
-        asks = e .asks ⊕ f .asks;
-        same = λ h. ap₂ quotZ (e .same (left (e .asks) (f .asks) h)) (f .same (right (e .asks) (f .asks) h));
-        is = λ h. refl;
-      };
-    }
+r-quot k a b x y = both quotZ k a b x y
 
 abbrev pub r-rem : (k : Fuel) (a b : ℤ) → R k a → R k b → R (s k) (remZ a b)
-r-rem k a b x y = let e = x .r in let f = y .r in
-    record {
-      r = record {
-        v = remZ (e .v) (f .v);
-        p = P (remZ (e .v) (f .v));
-        n = N (remZ (e .v) (f .v));
-        asks = e .asks ⊕ f .asks;
-        same = λ h. ap₂ remZ (e .same (left (e .asks) (f .asks) h)) (f .same (right (e .asks) (f .asks) h));
-        is = λ h. refl;
-      };
-    }
+r-rem k a b x y = both remZ k a b x y
 
 -- a product with a natural number, which is linear where that is a literal
 pub scale-is : (n : ℕ) (a : ℤ) (p q : ℕ) → P a + q ≡ p + N a → P (pos n *ℤ a) + n * q ≡ n * p + N (pos n *ℤ a)
@@ -394,9 +378,6 @@ bk-in w z h = bk h
 -- orders and equations of numbers that are only passed on and tested, with no arithmetic: `omega (arith, zord)`, also for a goal of several such parts. Here a fact `SFits w z` is read as: z is what is read back from its bits
 pub ruleset zord = (le-in, lt-in, eq-in, bk-in, lt-yes, lt-no, le-yes, le-no, le-out, lt-out, eq-out)
 
-pub bx : {w : Width} {z : ℤ} → SFits w z → (e : Rd z) → Holds (e .r .asks) → P (toZ w (ofZ w z)) + e .r .n ≡ e .r .p + N (toZ w (ofZ w z))
-bx {w} {z} h e k = omega (arith, bk h, e .r .is k, eq-in z (e .r .v) (e .r .same k))
-
 -- two numbers with the same bits
 pub bits-eq : {w : Width} {a b : ℤ} → SFits w a → SFits w b → ofZ w a ≡ ofZ w b → a ≡ b
 bits-eq {w} {a} {b} h k e = sym (toZ-ofZ w a h) ∙ ap (toZ w) e ∙ toZ-ofZ w b k
@@ -447,7 +428,7 @@ abs-neg {z = negsuc n} h = refl
 pub bits-ne : (w : Width) (a b : ℤ) → (ofZ w a ≡ ofZ w b → ⊥) → P a + N b ≢ P b + N a
 bits-ne w a b f e = f (ap (ofZ w) (eq-out a b e))
 
--- ════ facts that are an equation with a sum, a difference, a negation on the right, as a callee's `ensures` often is: `omega (arith, zsum)` for `omega (arith, zin)`
+-- ════ facts that are an equation with a sum, a difference, a negation on the right, for omega's list
 pub eq-plus : (r a b : ℤ) → r ≡ a +ℤ b → P r + (N a + N b) ≡ (P a + P b) + N r
 eq-plus r a b e = omega (arith, eq-in r (a +ℤ b) e, add-is a b)
 
@@ -456,10 +437,6 @@ eq-minus r a b e = omega (arith, eq-in r (a -ℤ b) e, add-is a (negℤ b), neg-
 
 pub eq-neg : (r a : ℤ) → r ≡ negℤ a → P r + P a ≡ N a + N r
 eq-neg r a e = omega (arith, eq-in r (negℤ a) e, neg-is a)
-
-pub ruleset zsum = (eq-minus, eq-plus, eq-neg, le-in, lt-in, eq-in, sfits-in, lt-yes, lt-no, le-yes, le-no)
-
-pub ruleset zords = (eq-minus, eq-plus, eq-neg, le-in, lt-in, eq-in, bk-in, lt-yes, lt-no, le-yes, le-no, le-out, lt-out, eq-out)
 
 -- ════ a number between two bounds, as one fact. The bounds are atoms or literals
 pub zwithin : {lo hi z : ℤ} (e : Rd z) → Holds (e .r .asks) × (P lo + e .r .n ≤ e .r .p + N lo) × (e .r .p + N hi ≤ P hi + e .r .n) → Within lo hi z

@@ -1,18 +1,15 @@
--- The laws of the ring ℤ and of its order, and of the size of a number. Assumes nothing.
-use mathlib.Core.Path.{_≡_, refl, sym, _∙_, ap}
+-- The laws of the ring ℤ and of its order. Assumes nothing.
+use mathlib.Core.Path.{_≡_, refl, _∙_, ap}
 use mathlib.Core.Logic.{_⊎_, inl, inr}
-use Prim.Native.Nat.{ℕ, zero, suc, _+_, _*_, _-_, _<_, _≤_}
-use native.Mathlib.Nat.{mul-le-mul-right, mul-le-mul}
+use Prim.Native.Nat.{ℕ, suc, _+_, _*_, _≤_}
+use native.Mathlib.Nat.{mul-le-mul-right}
 use native.Mathlib.Decide.{decLe}
 use native.Mathlib.Omega.{arith}
 use lib.IntN.{ℤ, pos, negsuc, negℤ, _+ℤ_, _-ℤ_, _*ℤ_}
 use lib.Signed.{_≤ℤ_, _<ℤ_}
-use mir.Syntax.{w32}
-use mir.Val.{SFits}
-use mir.ValLaws.{toZ-ofZ}
-use Rattle.whole.specs.Size.{P, N, Abs≤}
-use Rattle.whole.proofs.Parts.{le-in, lt-in, le-out, lt-out, eq-in, mul-is, sfits-make, zin, zout}
-use Rattle.whole.proofs.Readings.{zed, zlin, zle, zlt, zeq, ole, olt, oeq, scale, Rd, Two, Holds, W32}
+use Rattle.whole.specs.Size.{P, N}
+use Rattle.whole.proofs.Parts.{le-in, lt-in, le-out, lt-out, mul-is, zin, zout}
+use Rattle.whole.proofs.Readings.{zed, zlin, zle, zeq, scale}
 
 -- ---- the ring
 pub *-assoc : (a b c : ℤ) → (a *ℤ b) *ℤ c ≡ a *ℤ (b *ℤ c)
@@ -132,66 +129,3 @@ negative-P {z = negsuc n} h = refl
 
 pub mul-mono-z : {a b : ℤ} (k : ℤ) → pos 0 ≤ℤ k → a ≤ℤ b → (k *ℤ a) ≤ℤ (k *ℤ b)
 mul-mono-z {a} {b} k p h = zle (search zed depth 14) (omega (arith, mul-le-mul-right (P k) (le-in a b h), ap (λ (x : ℕ). x * P a) (nonneg-N p), ap (λ (x : ℕ). x * P b) (nonneg-N p), ap (λ (x : ℕ). x * N a) (nonneg-N p), ap (λ (x : ℕ). x * N b) (nonneg-N p)))
-
--- ---- a bound on the size: |z| ≤ B. `P z + N z` is |z|, and omega reads it
-pub abs-pair : {z : ℤ} {B : ℕ} → negℤ (pos B) ≤ℤ z → z ≤ℤ pos B → Abs≤ z B
-abs-pair {z} {B} h k = record { abs = go z (omega (arith, ole h (search zed depth 14) (omega arith))) (le-in z (pos B) k) }
-  where
-    go : (z : ℤ) → N z ≤ P z + B → P z + 0 ≤ B + N z → P z + N z ≤ B
-    go (pos n) h k = omega arith
-    go (negsuc n) h k = omega arith
-
-pub abs-lo : {z : ℤ} {B : ℕ} → Abs≤ z B → negℤ (pos B) ≤ℤ z
-abs-lo {z} {B} h = zle (search zed depth 14) (omega arith)
-
-pub abs-hi : {z : ℤ} {B : ℕ} → Abs≤ z B → z ≤ℤ pos B
-abs-hi {z} {B} h = omega (arith, zout)
-
-pub size : (n : ℕ) → P (negℤ (pos n)) + N (negℤ (pos n)) ≡ n
-size zero = refl
-size (suc n) = omega arith
-
-pub neg-part : (n : ℕ) → P (negℤ (pos n)) ≡ 0
-neg-part zero = refl
-neg-part (suc n) = refl
-
--- the size of a product is the product of the sizes
-pub abs-mul : (a b : ℤ) → P (a *ℤ b) + N (a *ℤ b) ≡ (P a + N a) * (P b + N b)
-abs-mul (pos a) (pos b) = omega arith
-abs-mul (pos a) (negsuc b) = omega (arith, size (a * suc b))
-abs-mul (negsuc a) (pos b) = omega (arith, size (suc a * b))
-abs-mul (negsuc a) (negsuc b) = omega arith
-
--- |a| ≤ B, of an expression, for omega's list
-pub bd-of : (a : ℤ) (B : ℕ) (e : Rd a) → Holds (e .r .asks) × (e .r .p ≤ e .r .n + B) × (e .r .n ≤ e .r .p + B) → P a + N a ≤ B
-bd-of a B e h = go a (e .r .p) (e .r .n) (omega (arith, e .r .is (h .0), eq-in a (e .r .v) (e .r .same (h .0)))) (h .1) (h .2)
-  where
-    go : (a : ℤ) (p n : ℕ) → P a + n ≡ p + N a → p ≤ n + B → n ≤ p + B → P a + N a ≤ B
-    go (pos x) p n h k l = omega arith
-    go (negsuc x) p n h k l = omega arith
-
--- the product of two numbers of which |a| ≤ B and |b| ≤ C: bd2 (bd-of B (search zlin depth 14) (omega ..)) (bd-of C ..)
-pub bd2 : {B C : ℕ} (a b : ℤ) → P a + N a ≤ B → P b + N b ≤ C → P (a *ℤ b) + N (a *ℤ b) ≤ B * C
-bd2 a b h k = omega (arith, abs-mul a b, mul-le-mul h k)
-
-pub zabs : {a : ℤ} {B : ℕ} (e : Rd a) → Holds (e .r .asks) × (e .r .p ≤ e .r .n + B) × (e .r .n ≤ e .r .p + B) → Abs≤ a B
-zabs {a} {B} e h = record { abs = bd-of a B e h }
-
--- of two expressions at once
-pub bd1 : (a b : ℤ) (B C : ℕ) (t : Two a b) → Holds (t .e .asks) × Holds (t .f .asks) × (t .e .p ≤ t .e .n + B) × (t .e .n ≤ t .e .p + B) × (t .f .p ≤ t .f .n + C) × (t .f .n ≤ t .f .p + C) → P (t .e .v *ℤ t .f .v) + N (t .e .v *ℤ t .f .v) ≤ B * C
-bd1 a b B C t h = bd2 (t .e .v) (t .f .v) (go (t .e .v) (t .e .p) (t .e .n) B (t .e .is (h .0)) (h .2) (h .3)) (go (t .f .v) (t .f .p) (t .f .n) C (t .f .is (h .1)) (h .4) (h .5))
-  where
-    go : (a : ℤ) (p n B : ℕ) → P a + n ≡ p + N a → p ≤ n + B → n ≤ p + B → P a + N a ≤ B
-    go (pos x) p n B h k l = omega arith
-    go (negsuc x) p n B h k l = omega arith
-
--- the size of a product
-pub abs-times : (a b : ℤ) {B C D : ℕ} → Abs≤ a B → Abs≤ b C → B * C ≤ D → Abs≤ (a *ℤ b) D
-abs-times a b h k l = record { abs = omega (arith, abs-mul a b, mul-le-mul (h .abs) (k .abs)) }
-
--- a small number fits 32 bits, and is what is read back from its bits
-pub fits32 : {z : ℤ} {B : ℕ} → Abs≤ z B → B < 2147483648 → SFits w32 z
-fits32 {z} h k = sfits-make w32 z (omega arith) (omega arith)
-
-pub back32 : {z : ℤ} {B : ℕ} → Abs≤ z B → B < 2147483648 → W32 z ≡ z
-back32 {z} h k = toZ-ofZ w32 z (fits32 h k)

@@ -1,13 +1,12 @@
 -- Rounding to the nearest, a half away from zero: the one number that `Rounds` says, between whole bounds where the fraction is, and how the
 -- machine's quotient gives it. Assumes nothing.
-use mathlib.Core.Path.{_≡_, refl, sym, _∙_, ap, ap₂}
+use mathlib.Core.Path.{_≡_, refl, _∙_, ap, ap₂}
 use mathlib.Core.Logic.{⊎-elim}
-use Prim.Native.Nat.{ℕ, zero, suc, _+_, _*_, _-_, _/_, _%_, _<_, _≤_}
+use Prim.Native.Nat.{ℕ, zero, suc, _+_, _*_, _/_, _<_}
 use native.Mathlib.Nat.{mul-le-mul-right, mod-lt, div-add-mod'}
 use native.Mathlib.Omega.{arith}
 use lib.IntN.{ℤ, pos, negsuc, negℤ, natAbs, _+ℤ_, _-ℤ_, _*ℤ_}
 use lib.Signed.{_≤ℤ_, _<ℤ_, quotZ}
-use Rattle.whole.specs.Size.{Within}
 use Rattle.whole.specs.Rounding.{Rounds, rounded, RoundedIs, RoundedOnce, RoundedBetween, RoundingCases}
 use Rattle.whole.proofs.Parts.{lt-in, zin}
 use Rattle.whole.proofs.Readings.{zed, zle, zlt, zeq, ole, olt}

@@ -1,41 +1,32 @@
 -- Sums over places and over lists, and Hermite's identity. Assumes nothing.
 use mathlib.Core.Path.{_≡_, refl, sym, ap, ap₂, _∙_}
 use mathlib.Core.Logic.{_⊎_, inl, inr}
-use mathlib.Core.Bool.{Bool, true, false, cond}
+use mathlib.Core.Bool.{Bool, cond}
 use mathlib.Core.List.{List, [], _∷_, _++_}
-use Prim.Native.Nat.{ℕ, zero, suc, _+_, _*_, _-_, _≤_, _<_}
+use Prim.Native.Nat.{ℕ, zero, suc, _+_, _*_, _<_}
 use native.Mathlib.Nat.{not-suc-le-zero, le-refl, eq-or-lt-of-le, le-of-suc-le-suc}
 use native.Mathlib.Numerals.{add-one}
 use native.Mathlib.Omega.{arith}
-use lib.IntN.{ℤ, pos, negsuc, negℤ, _+ℤ_, _-ℤ_, _*ℤ_}
+use lib.IntN.{+ℤ-idl, +ℤ-idr, +ℤ-assoc, *ℤ-zero, zero-*ℤ, ℤ, pos, negℤ, _+ℤ_, _*ℤ_}
 use lib.Signed.{_≤ℤ_}
 use lib.Dec.{T}
 use lib.ListN.{length, getD}
 use Rattle.whole.specs.Size.{P, N, Abs≤}
-use Rattle.whole.specs.Floor.{floor, remainder}
+use Rattle.whole.specs.Floor.{floor}
 use Rattle.whole.specs.Sum.{sum, over}
 use Rattle.whole.proofs.Parts.{add-is, eq-out, le-out}
 use Rattle.whole.proofs.Linear.{on, difs, ints}
 use Rattle.whole.proofs.Readings.{zlin}
-use Rattle.whole.proofs.Ring.{zabs}
-use Rattle.whole.proofs.Floor.{div-rem, remainder-lt, floor-is, floor-next}
+use Rattle.whole.proofs.Ring.{*-dist-l}
+use Rattle.whole.proofs.Size.{zabs}
+use Rattle.whole.proofs.Floor.{floor-is, floor-next}
 use Rattle.whole.proofs.Tests.{T-true, T-false}
 
--- ---- linear facts of ℤ
 add4 : (a b c d : ℤ) → a +ℤ b +ℤ (c +ℤ d) ≡ a +ℤ c +ℤ (b +ℤ d)
 add4 = on _ λ p m. on _ λ p′ m′. on _ λ p″ m″. on _ λ q r. simp difs (omega ints)
 
-dist : (c a b : ℤ) → c *ℤ (a +ℤ b) ≡ c *ℤ a +ℤ c *ℤ b
-dist = on _ λ p m. on _ λ p′ m′. on _ λ p″ m″. simp difs (omega ints)
-
-mul0 : (c : ℤ) → c *ℤ pos 0 ≡ pos 0
-mul0 = on _ λ p m. simp difs (omega ints)
-
 suc-times : (n : ℕ) (c : ℤ) → pos n *ℤ c +ℤ c ≡ pos (suc n) *ℤ c
 suc-times n = on _ λ p m. simp difs (omega ints)
-
-zero-times : (c : ℤ) → pos 0 ≡ pos 0 *ℤ c
-zero-times = on _ λ p m. simp difs (omega ints)
 
 -- ---- sums
 pub sum-more : (n : ℕ) (f : ℕ → ℤ) → sum (n + 1) f ≡ sum n f +ℤ f n
@@ -54,8 +45,8 @@ sum-add (suc n) f g = rw (sum-add n f g) (add4 (sum n f) (sum n g) (f n) (g n))
 
 pub sum-mul : (n : ℕ) (c : ℤ) (f : ℕ → ℤ) → sum n (λ i. c *ℤ f i) ≡ c *ℤ sum n f
 unfolding sum
-sum-mul zero c f = sym (mul0 c)
-sum-mul (suc n) c f = rw (sum-mul n c f) (sym (dist c (sum n f) (f n)))
+sum-mul zero c f = sym (*ℤ-zero c)
+sum-mul (suc n) c f = rw (sum-mul n c f) (sym (*-dist-l c (sum n f) (f n)))
 
 pub sum-neg : (n : ℕ) (f : ℕ → ℤ) → sum n (λ i. negℤ (f i)) ≡ negℤ (sum n f)
 unfolding sum
@@ -67,11 +58,11 @@ sum-neg (suc n) f = rw (sum-neg n f) (lin (sum n f) (f n))
 
 pub sum-const : (n : ℕ) (c : ℤ) → sum n (λ i. c) ≡ pos n *ℤ c
 unfolding sum
-sum-const zero c = zero-times c
+sum-const zero c = sym (zero-*ℤ c)
 sum-const (suc n) c = rw (sum-const n c) (suc-times n c)
 
 pub sum-zero : (n : ℕ) → sum n (λ i. pos 0) ≡ pos 0
-sum-zero n = sum-const n (pos 0) ∙ mul0 (pos n)
+sum-zero n = sum-const n (pos 0) ∙ *ℤ-zero (pos n)
 
 pub sum-swap : (n k : ℕ) (f : ℕ → ℕ → ℤ) → sum n (λ i. sum k (f i)) ≡ sum k (λ j. sum n (λ i. f i j))
 unfolding sum
@@ -118,12 +109,6 @@ sum-tight (suc n) f g h t i l = go (eq-or-lt-of-le (le-of-suc-le-suc l)) (sum-ti
 abbrev pub pick : Bool → ℤ → ℤ
 pick b z = cond b z (pos 0)
 
-add-zero-ℤ : (z : ℤ) → z +ℤ pos 0 ≡ z
-add-zero-ℤ = on _ λ p m. simp difs (omega ints)
-
-zero-add-ℤ : (z : ℤ) → pos 0 +ℤ z ≡ z
-zero-add-ℤ = on _ λ p m. simp difs (omega ints)
-
 pub none : (n : ℕ) (h : ℕ → Bool) (f : ℕ → ℤ) → ((i : ℕ) → i < n → T (h i) → ⊥) → sum n (λ i. pick (h i) (f i)) ≡ pos 0
 none n h f no-hit = sum-cong n (λ i. pick (h i) (f i)) (λ i. pos 0) (λ i l. rw (T-false (h i) (no-hit i l))) ∙ sum-zero n
 
@@ -135,17 +120,14 @@ one-hit (suc n) h f s l t u = go (λ k. one-hit n h f s k t (λ i m. u i (omega 
     go : (s < n → sum n (λ i. pick (h i) (f i)) ≡ f s) → (s ≡ n) ⊎ (s < n) → sum n (λ i. pick (h i) (f i)) +ℤ pick (h n) (f n) ≡ f s
     go ih (inl e) =
         let t′ : T (h n) = rw e at t in
-        rw (none n h f (λ i m q. let z : i ≡ s = u i (omega arith) q in omega arith), T-true (h n) t′, e) (zero-add-ℤ (f n))
-    go ih (inr k) = rw (ih k, T-false (h n) (λ q. let z : n ≡ s = u n (le-refl (suc n)) q in omega arith)) (add-zero-ℤ (f s))
+        rw (none n h f (λ i m q. let z : i ≡ s = u i (omega arith) q in omega arith), T-true (h n) t′, e) (+ℤ-idl (f n))
+    go ih (inr k) = rw (ih k, T-false (h n) (λ q. let z : n ≡ s = u n (le-refl (suc n)) q in omega arith)) (+ℤ-idr (f s))
 
 -- ---- Hermite: Σ_{u<m} ⌊(v+u)/m⌋ = v
-move : (a b c : ℤ) → a +ℤ b +ℤ c ≡ a +ℤ (b +ℤ c)
-move = on _ λ a b. on _ λ c d. on _ λ e f. simp difs (omega ints)
-
 pub sum-first : (n : ℕ) (f : ℕ → ℤ) → sum (suc n) f ≡ f 0 +ℤ sum n (λ i. f (suc i))
 unfolding sum
-sum-first zero f = zero-add-ℤ (f 0) ∙ sym (add-zero-ℤ (f 0))
-sum-first (suc n) f = rw (sum-first n f) (move (f 0) (sum n (λ i. f (suc i))) (f (suc n)))
+sum-first zero f = +ℤ-idl (f 0) ∙ sym (+ℤ-idr (f 0))
+sum-first (suc n) f = rw (sum-first n f) (+ℤ-assoc (f 0) (sum n (λ i. f (suc i))) (f (suc n)))
 
 her : ℕ → ℤ → ℤ
 her m v = sum m (λ u. floor (v +ℤ pos u) m)
@@ -164,12 +146,12 @@ her-suc m v h = lin (floor v m) (her m (v +ℤ pos 1)) (her m v) (floor (v +ℤ 
         lin′ u = on _ λ a b. simp difs (omega ints)
 
     e : floor v m +ℤ her m (v +ℤ pos 1) ≡ her m v +ℤ floor (v +ℤ pos m) m
-    e = ap₂ _+ℤ_ (ap (λ (z : ℤ). floor z m) (sym (add-zero-ℤ v)))
+    e = ap₂ _+ℤ_ (ap (λ (z : ℤ). floor z m) (sym (+ℤ-idr v)))
         (sum-cong m (λ u. floor (v +ℤ pos 1 +ℤ pos u) m) (λ u. floor (v +ℤ pos (suc u)) m) (λ u l. ap (λ (z : ℤ). floor z m) (sym (shift v u))))
         ∙ sym (sum-first m (λ u. floor (v +ℤ pos u) m))
 
 her-add : (m : ℕ) (v : ℤ) (k : ℕ) → 0 < m → her m (v +ℤ pos k) ≡ her m v +ℤ pos k
-her-add m v zero h = rw (add-zero-ℤ v) (sym (add-zero-ℤ (her m v)))
+her-add m v zero h = rw (+ℤ-idr v) (sym (+ℤ-idr (her m v)))
 her-add m v (suc k) h = ap (her m) (lin k v) ∙ her-suc m (v +ℤ pos k) h ∙ ap (λ (z : ℤ). z +ℤ pos 1) (her-add m v k h) ∙ sym (lin k (her m v))
   where
     lin : (k : ℕ) (v : ℤ) → v +ℤ pos (suc k) ≡ v +ℤ pos k +ℤ pos 1
@@ -200,5 +182,5 @@ sum-list (b ∷ l) a f = sum-first (length l) (λ m. f (getD (b ∷ l) m a)) ∙
 
 pub over-append : {A : Type 0} (l r : List A) (f : A → ℤ) → over (l ++ r) f ≡ over l f +ℤ over r f
 unfolding over
-over-append [] r f = sym (zero-add-ℤ (over r f))
-over-append (b ∷ l) r f = ap (λ (z : ℤ). f b +ℤ z) (over-append l r f) ∙ sym (move (f b) (over l f) (over r f))
+over-append [] r f = sym (+ℤ-idl (over r f))
+over-append (b ∷ l) r f = ap (λ (z : ℤ). f b +ℤ z) (over-append l r f) ∙ sym (+ℤ-assoc (f b) (over l f) (over r f))

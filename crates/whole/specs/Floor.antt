@@ -1,6 +1,6 @@
 -- Division that rounds down, and the remainder that is never negative.
 use mathlib.Core.Path.{_≡_}
-use Prim.Native.Nat.{ℕ, suc, _+_, _-_, _/_, _%_, _<_, _≤_}
+use Prim.Native.Nat.{ℕ, suc, _-_, _/_, _%_, _<_, _≤_}
 use lib.IntN.{ℤ, pos, negsuc, _+ℤ_, _*ℤ_}
 
 -- ⌊z / m⌋

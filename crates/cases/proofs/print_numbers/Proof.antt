@@ -5,9 +5,6 @@ use Prim.Native.Nat.{_≤_, _-_}
 use lib.ListN.{length}
 use Rattle.cases.proofs.print_numbers.Statement.{statement}
 use Rattle.cases.proofs.print_numbers.Tie as tie
-use Rattle.cases.proofs.print_numbers.Reads as reads
-use Rattle.cases.proofs.print_numbers.Lts as lts
-use Rattle.cases.proofs.print_number.Reads as print-number-reads
 
 abbrev Inv-loop : tie.InvT-loop
 Inv-loop xs n i₀ i = (i ≤ n) × (n ≡ length xs)

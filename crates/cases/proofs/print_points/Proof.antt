@@ -3,9 +3,6 @@ use borrow.Author.Needs.{needs}
 use Prim.Native.Nat.{_≤_, _-_}
 use Rattle.cases.proofs.print_points.Statement.{statement}
 use Rattle.cases.proofs.print_points.Tie as tie
-use Rattle.cases.proofs.print_points.Reads as reads
-use Rattle.cases.proofs.print_points.Lts as lts
-use Rattle.cases.proofs.print_slot.Reads as print-slot-reads
 
 abbrev Inv-loop : tie.InvT-loop
 Inv-loop s n k₀ k = k ≤ n

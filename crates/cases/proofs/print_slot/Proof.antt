@@ -3,11 +3,6 @@ use borrow.Author.Needs.{needs}
 use native.Mathlib.Omega.{arith}
 use Rattle.cases.proofs.print_slot.Statement.{statement}
 use Rattle.cases.proofs.print_slot.Tie as tie
-use Rattle.cases.proofs.print_slot.Reads as reads
-use Rattle.cases.proofs.print_slot.Lts as lts
-use Rattle.cases.proofs.print_numbers.Reads as print-numbers-reads
-use Rattle.io.proofs.print_decimal.Reads as print-decimal-reads
-use Rattle.io.proofs.write_all.Reads as write-all-reads
 
 -- src/main.rt:31:18
 mul-weight : tie.Need-mul-weight

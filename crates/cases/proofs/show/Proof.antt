@@ -7,14 +7,6 @@ use lib.ListN.{length}
 use Rattle.lattice.proofs.Judging.{placed}
 use Rattle.cases.proofs.show.Statement.{statement}
 use Rattle.cases.proofs.show.Tie as tie
-use Rattle.cases.proofs.show.Reads as reads
-use Rattle.cases.proofs.show.Lts as lts
-use Rattle.cases.proofs.print_numbers.Reads as print-numbers-reads
-use Rattle.cases.proofs.print_points.Reads as print-points-reads
-use Rattle.io.proofs.print_decimal.Reads as print-decimal-reads
-use Rattle.io.proofs.write_all.Reads as write-all-reads
-use Rattle.lattice.proofs.position.judge.Reads as judge-reads
-use Rattle.lattice.proofs.simplex.enclose.Reads as enclose-reads
 
 -- src/main.rt:62:9
 returns : tie.Need-returns

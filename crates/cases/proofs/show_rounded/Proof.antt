@@ -11,15 +11,10 @@ use Rattle.whole.specs.Size.{Within}
 use Rattle.whole.specs.Rounding.{rounded}
 use Rattle.whole.proofs.Parts.{zin, natAbs-is}
 use Rattle.whole.proofs.Readings.{zlin, zed, zle, zeq, zfits, zwithin, t≥, W32, W64}
-use Rattle.whole.proofs.Ring.{zabs}
+use Rattle.whole.proofs.Size.{zabs}
 use Rattle.whole.proofs.Rounding.{rounded-between}
 use Rattle.cases.proofs.show_rounded.Statement.{statement}
 use Rattle.cases.proofs.show_rounded.Tie as tie
-use Rattle.cases.proofs.show_rounded.Reads as reads
-use Rattle.cases.proofs.show_rounded.Lts as lts
-use Rattle.cases.proofs.print_number.Reads as print-number-reads
-use Rattle.io.proofs.write_all.Reads as write-all-reads
-use Rattle.whole.proofs.round.round_fraction.Reads as round-fraction-reads
 
 positive : (c : tie.Else1) → pos 1 ≤ℤ c .before .args .den
 positive c = t≥ {a = W32 (c .before .args .den)} {b = pos 1} (c .if1 .left) (search zlin depth 14) (omega (arith, zin))

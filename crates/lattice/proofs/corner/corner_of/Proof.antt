@@ -1,26 +1,18 @@
 -- The steps from place j, and what they make (`corner-made`).
 use borrow.Author.Needs.{needs}
 use native.Mathlib.Omega.{arith}
-use mathlib.Core.Path.{_≡_, refl, ap, sym, _∙_}
-use Prim.Native.Nat.{ℕ}
-use lib.IntN.{ℤ, pos, negℤ, _-ℤ_, _*ℤ_}
+use mathlib.Core.Path.{_≡_, refl, ap, _∙_}
+use lib.IntN.{ℤ, pos, _-ℤ_, _*ℤ_}
 use lib.Dec.{lit<}
-use lib.ListN.{getD}
-use Rattle.whole.specs.Size.{Abs≤}
 use Rattle.whole.specs.Floor.{remainder}
 use Rattle.whole.specs.Lists.{at}
 use Rattle.whole.proofs.Parts.{zin}
 use Rattle.whole.proofs.Readings.{zlin, zeq, zfits, W32}
-use Rattle.whole.proofs.Ring.{back32}
+use Rattle.whole.proofs.Size.{back32}
 use Rattle.lattice.specs.Inner.{Span, padded}
 use Rattle.lattice.proofs.Steps.{span-of, spread-le, corner-made}
 use Rattle.lattice.proofs.corner.corner_of.Statement.{statement}
 use Rattle.lattice.proofs.corner.corner_of.Tie as tie
-use Rattle.lattice.proofs.corner.corner_of.Reads as reads
-use Rattle.lattice.proofs.corner.corner_of.Lts as lts
-use Rattle.lattice.proofs.corner.spanned_by.Reads as spanned-by-reads
-use Rattle.lattice.proofs.corner.steps_from.Reads as steps-from-reads
-use Rattle.whole.proofs.division.remainder_of.Reads as remainder-of-reads
 
 steps-from-requires : tie.Need-steps-from-requires
 steps-from-requires c κs = search needs

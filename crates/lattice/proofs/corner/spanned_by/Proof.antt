@@ -1,24 +1,21 @@
 -- The point is filled from the front; n·z_i and the sum are each within 12,000,006.
 use borrow.Author.Needs.{needs}
 use native.Mathlib.Omega.{arith}
-use mathlib.Core.Path.{_≡_, refl, ap, sym, _∙_}
-use Prim.Native.Nat.{ℕ, _+_, _*_, _≤_, _<_, _-_}
+use mathlib.Core.Path.{_≡_, ap, _∙_}
+use Prim.Native.Nat.{ℕ, _+_, _*_, _≤_, _-_}
 use lib.IntN.{ℤ, pos, _-ℤ_, _*ℤ_}
 use lib.Dec.{lit<, lit≤}
-use lib.ListN.{length, getD}
 use mir.Syntax.{w32}
-use mir.Val.{toZ, ofZ, SFits}
+use mir.Val.{toZ}
 use Rattle.whole.specs.Size.{P, N, Abs≤}
 use Rattle.whole.specs.Lists.{at}
 use Rattle.whole.proofs.Parts.{mul-is, zin}
 use Rattle.whole.proofs.Readings.{zlow, zeq, zfits, W32}
-use Rattle.whole.proofs.Ring.{abs-times, back32}
+use Rattle.whole.proofs.Size.{abs-times, back32}
 use Rattle.lattice.specs.Inner.{padded}
 use Rattle.lattice.proofs.Padding.{padded-none, padded-more}
 use Rattle.lattice.proofs.corner.spanned_by.Statement.{statement}
 use Rattle.lattice.proofs.corner.spanned_by.Tie as tie
-use Rattle.lattice.proofs.corner.spanned_by.Reads as reads
-use Rattle.lattice.proofs.corner.spanned_by.Lts as lts
 
 abbrev Inv-loop : tie.InvT-loop
 Inv-loop total n z y₀ i₀ y i = (i ≤ n) × (y ≡ padded i (λ t. pos n *ℤ at z t -ℤ toZ w32 total))

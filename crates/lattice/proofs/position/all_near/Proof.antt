@@ -2,10 +2,10 @@
 use borrow.Author.Needs.{needs}
 use native.Mathlib.Omega.{arith}
 use mathlib.Core.Path.{_≡_, refl, ap, sym, _∙_}
-use mathlib.Core.Bool.{true, false}
-use Prim.Native.Nat.{_≤_, _-_, _<_, ℕ}
-use lib.ListN.{length, getD}
-use lib.IntN.{pos, natAbs}
+use mathlib.Core.Bool.{true}
+use Prim.Native.Nat.{_≤_, _-_, ℕ}
+use lib.ListN.{length}
+use lib.IntN.{natAbs}
 use lib.Dec.{leb}
 use borrow.Author.Tests.{le-leb, lt-leb}
 use mir.Syntax.{w32}
@@ -17,9 +17,6 @@ use Rattle.lattice.specs.Position.{farthest, allNear}
 use Rattle.whole.proofs.Tests.{all-more, all-stop}
 use Rattle.lattice.proofs.position.all_near.Statement.{statement}
 use Rattle.lattice.proofs.position.all_near.Tie as tie
-use Rattle.lattice.proofs.position.all_near.Reads as reads
-use Rattle.lattice.proofs.position.all_near.Lts as lts
-use Rattle.whole.proofs.words.size_of.Reads as size-of-reads
 
 abbrev Inv-loop : tie.InvT-loop
 Inv-loop x n i₀ i = (i ≤ n) × (n ≡ length x) × (all i (λ t. leb (natAbs (at x t)) farthest) ≡ true)

@@ -1,23 +1,20 @@
 -- The sum so far; i numbers of 32 bits stay within i times 2^31.
 use borrow.Author.Needs.{needs}
 use native.Mathlib.Omega.{arith}
-use mathlib.Core.Path.{_≡_, refl, ap, sym, _∙_}
-use Prim.Native.Nat.{ℕ, _+_, _≤_, _<_, _*_, _-_}
-use lib.IntN.{pos}
-use lib.ListN.{length, getD}
+use mathlib.Core.Path.{_≡_, refl, ap, _∙_}
+use Prim.Native.Nat.{ℕ, _+_, _≤_, _*_, _-_}
+use lib.ListN.{length}
 use mir.Syntax.{w32, w64}
-use mir.Val.{toZ, ofZ, SFits}
+use mir.Val.{toZ, SFits}
 use Rattle.whole.specs.Size.{Abs≤}
 use Rattle.whole.specs.Sum.{sum}
 use Rattle.whole.specs.Lists.{at}
 use Rattle.whole.proofs.Parts.{zin}
 use Rattle.whole.proofs.Readings.{zlin, zeq, zfits, eq-plus}
-use Rattle.whole.proofs.Ring.{zabs}
+use Rattle.whole.proofs.Size.{zabs}
 use Rattle.whole.proofs.Sum.{sum-more}
 use Rattle.lattice.proofs.position.coordinate_sum.Statement.{statement}
 use Rattle.lattice.proofs.position.coordinate_sum.Tie as tie
-use Rattle.lattice.proofs.position.coordinate_sum.Reads as reads
-use Rattle.lattice.proofs.position.coordinate_sum.Lts as lts
 
 abbrev Inv-loop : tie.InvT-loop
 Inv-loop x n total₀ i₀ total i = (i ≤ n) × (n ≡ length x) × (toZ w64 total ≡ sum i (at x)) × Abs≤ (toZ w64 total) (i * 2147483648)

@@ -2,22 +2,15 @@
 use borrow.Author.Needs.{needs}
 use borrow.Author.Tests.{not-true, not-false}
 use mathlib.Core.Path.{_≡_, ap, sym, _∙_}
-use mathlib.Core.Bool.{true, false}
+use mathlib.Core.Bool.{true}
 use lib.IntN.{pos}
-use lib.ListN.{length}
 use mir.Syntax.{w64}
 use mir.Val.{SFits, ofZ}
-use Rattle.whole.specs.Sum.{sum}
-use Rattle.whole.specs.Lists.{at}
 use Rattle.whole.proofs.Readings.{bits-eq}
 use Rattle.lattice.specs.Position.{allNear}
 use Rattle.lattice.proofs.Judging.{judged-four, judged-five, judged-none, sum-zero, sum-other}
 use Rattle.lattice.proofs.position.judge.Statement.{statement}
 use Rattle.lattice.proofs.position.judge.Tie as tie
-use Rattle.lattice.proofs.position.judge.Reads as reads
-use Rattle.lattice.proofs.position.judge.Lts as lts
-use Rattle.lattice.proofs.position.all_near.Reads as all-near-reads
-use Rattle.lattice.proofs.position.coordinate_sum.Reads as coordinate-sum-reads
 
 all-near-requires : tie.Need-all-near-requires
 all-near-requires c κs = search needs

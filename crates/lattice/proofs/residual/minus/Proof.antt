@@ -6,7 +6,6 @@ use lib.IntN.{ℤ, pos, _-ℤ_}
 use lib.Signed.{_<ℤ_, _≤ℤ_}
 use Rattle.whole.proofs.Parts.{zin}
 use Rattle.whole.proofs.Readings.{zlow, zeq, zfits, t<, t≥, W32}
-use Rattle.lattice.specs.Inner.{SplitOf}
 use Rattle.lattice.proofs.Splits.{minus-low, minus-high}
 use Rattle.lattice.proofs.residual.minus.Statement.{statement}
 use Rattle.lattice.proofs.residual.minus.Tie as tie

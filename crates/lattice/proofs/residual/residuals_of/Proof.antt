@@ -1,28 +1,22 @@
 -- The two lists are filled from the front, a split a turn.
 use borrow.Author.Needs.{needs}
 use native.Mathlib.Omega.{arith}
-use mathlib.Core.Path.{_≡_, refl, ap, sym, _∙_}
-use Prim.Native.Nat.{_≤_, _-_, _<_, ℕ}
-use lib.ListN.{length, getD}
+use mathlib.Core.Path.{_≡_, refl, _∙_}
+use Prim.Native.Nat.{_≤_, _-_, ℕ}
+use lib.ListN.{length}
 use lib.Dec.{lit<}
 use lib.IntN.{ℤ, pos}
-use mir.Syntax.{w32}
-use mir.Val.{SFits, toZ, ofZ}
-use mir.Facts.{toZ-ofZ}
 use Rattle.whole.specs.Size.{Abs≤}
 use Rattle.whole.specs.Floor.{floor, remainder}
 use Rattle.whole.specs.Lists.{at}
 use Rattle.whole.proofs.Parts.{zin}
 use Rattle.whole.proofs.Readings.{zlin, zeq, W32}
-use Rattle.whole.proofs.Ring.{back32}
-use Rattle.lattice.specs.Inner.{padded, SplitOf, Part}
+use Rattle.whole.proofs.Size.{back32}
+use Rattle.lattice.specs.Inner.{padded, Part}
 use Rattle.lattice.proofs.Splits.{part-of}
 use Rattle.lattice.proofs.Padding.{padded-none, padded-more}
 use Rattle.lattice.proofs.residual.residuals_of.Statement.{statement}
 use Rattle.lattice.proofs.residual.residuals_of.Tie as tie
-use Rattle.lattice.proofs.residual.residuals_of.Reads as reads
-use Rattle.lattice.proofs.residual.residuals_of.Lts as lts
-use Rattle.lattice.proofs.residual.split_of.Reads as split-of-reads
 
 abbrev Inv-loop : tie.InvT-loop
 Inv-loop x w floors₀ rests₀ n i₀ floors rests i = (i ≤ n) × (n ≡ length x) × (floors ≡ padded i (λ t. floor (at x t) w)) × (rests ≡ padded i (λ t. pos (remainder (at x t) w)))

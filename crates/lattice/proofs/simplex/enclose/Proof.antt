@@ -2,9 +2,8 @@
 use borrow.Author.Needs.{needs}
 use native.Mathlib.Numerals.{add-one}
 use native.Mathlib.Omega.{arith}
-use mathlib.Core.Path.{_≡_, refl, ap, sym, _∙_}
-use Prim.Native.Nat.{ℕ, suc, _+_, _*_, _≤_, _<_, _-_}
-use lib.IntN.{ℤ, pos}
+use mathlib.Core.Path.{_≡_, ap, sym, _∙_}
+use Prim.Native.Nat.{suc, _+_, _≤_, _<_, _-_}
 use Rattle.whole.specs.Lists.{at}
 use Rattle.lattice.specs.Weight.{W}
 use Rattle.lattice.specs.Simplex.{slotWeights, slotCoords}
@@ -13,11 +12,6 @@ use Rattle.lattice.proofs.Slots.{weights-turn, coords-turn}
 use Rattle.lattice.proofs.Enclosing.{near-of, parts-of, corner-is, no-weights, no-coords, room-of}
 use Rattle.lattice.proofs.simplex.enclose.Statement.{statement}
 use Rattle.lattice.proofs.simplex.enclose.Tie as tie
-use Rattle.lattice.proofs.simplex.enclose.Reads as reads
-use Rattle.lattice.proofs.simplex.enclose.Lts as lts
-use Rattle.lattice.proofs.corner.corner_of.Reads as corner-of-reads
-use Rattle.lattice.proofs.residual.residuals_of.Reads as residuals-of-reads
-use Rattle.lattice.proofs.simplex.put.Reads as put-reads
 
 abbrev Inv-loop : tie.InvT-loop
 Inv-loop x d fineness n w res s₀ j₀ s j = (j ≤ d + 1) × (s .weights ≡ slotWeights d fineness x j) × (s .coords ≡ slotCoords d fineness x j)

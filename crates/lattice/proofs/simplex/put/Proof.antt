@@ -1,19 +1,17 @@
 -- The weight by one store; the point by a copy, a coordinate a turn.
 use borrow.Author.Needs.{needs}
 use native.Mathlib.Omega.{arith}
-use mathlib.Core.Path.{_≡_, refl, ap, sym, _∙_}
-use Prim.Native.Nat.{ℕ, _+_, _*_, _≤_, _<_, _-_}
-use lib.IntN.{ℤ, pos}
-use lib.ListN.{length, getD, take, drop}
+use mathlib.Core.Path.{_≡_, refl}
+use Prim.Native.Nat.{_*_, _≤_, _-_}
+use lib.IntN.{pos}
+use lib.ListN.{take}
 use mir.Syntax.{w32}
-use mir.Val.{SFits, toZ, ofZ}
+use mir.Val.{SFits}
 use mir.Facts.{toZ-ofZ}
 use Rattle.whole.specs.Lists.{at, splice}
 use Rattle.whole.proofs.Lists.{splice-none, splice-more, splice-all}
 use Rattle.lattice.proofs.simplex.put.Statement.{statement}
 use Rattle.lattice.proofs.simplex.put.Tie as tie
-use Rattle.lattice.proofs.simplex.put.Reads as reads
-use Rattle.lattice.proofs.simplex.put.Lts as lts
 
 abbrev Inv-loop : tie.InvT-loop
 Inv-loop weights coords₀ y k start i₀ coords i = (i ≤ 6) × (coords ≡ splice coords₀ start (take i y))

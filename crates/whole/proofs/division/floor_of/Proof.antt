@@ -3,7 +3,7 @@ use borrow.Author.Needs.{needs}
 use mathlib.Core.Path.{_∙_}
 use native.Mathlib.Omega.{arith}
 use lib.IntN.{pos}
-use lib.Signed.{remZ, _<ℤ_, _≤ℤ_}
+use lib.Signed.{remZ, _≤ℤ_}
 use mir.Val.{toZ}
 use mir.Syntax.{w64}
 use Rattle.whole.proofs.Parts.{zin, zout}

@@ -1,13 +1,13 @@
 -- Three times 2.5·10^18 fits 64 bits, so neither the double nor the sum wraps; the quotient is the rounded one by `rounded-pos` and `rounded-neg`.
 use native.Mathlib.Omega.{arith}
-use mathlib.Core.Path.{_≡_, _∙_, ap}
-use lib.IntN.{ℤ, pos, negℤ, _-ℤ_, _+ℤ_}
-use lib.Signed.{quotZ, _<ℤ_, _≤ℤ_}
+use mathlib.Core.Path.{_∙_}
+use lib.IntN.{pos, _-ℤ_, _+ℤ_}
+use lib.Signed.{quotZ, _≤ℤ_}
 use mir.Syntax.{w64}
 use Rattle.whole.specs.Size.{Abs≤}
 use Rattle.whole.proofs.Parts.{zin}
 use Rattle.whole.proofs.Readings.{zlin, zle, zeq, zfits, t<, t≥, W64, nz}
-use Rattle.whole.proofs.Ring.{zabs}
+use Rattle.whole.proofs.Size.{zabs}
 use Rattle.whole.proofs.Floor.{quot-abs}
 use Rattle.whole.proofs.Rounding.{rounded-pos, rounded-neg}
 use Rattle.whole.proofs.round.round_fraction.Statement.{statement}

@@ -2,10 +2,9 @@
 use borrow.Author.Needs.{needs}
 use native.Mathlib.Omega.{arith}
 use mathlib.Core.Path.{_≡_, ap, _∙_}
-use Prim.Native.Nat.{ℕ, _+_, _-_, _<_}
+use Prim.Native.Nat.{_+_, _-_, _<_}
 use lib.IntN.{ℤ, pos, negsuc, natAbs, _-ℤ_}
 use lib.Signed.{_<ℤ_, _≤ℤ_}
-use Rattle.whole.specs.Size.{P, N}
 use Rattle.whole.proofs.Parts.{zin, natAbs-is}
 use Rattle.whole.proofs.Readings.{zlin, zeq, zfits, zcast, t≤, t>, W32}
 use Rattle.whole.proofs.Ring.{negative-P}
