@@ -12,7 +12,7 @@ use lib.Dec.{T, ltb, leb, le→leb, lt→ltb}
 use Rattle.whole.specs.Size.{P, N}
 use Rattle.whole.specs.Floor.{floor, remainder}
 use Rattle.whole.specs.Sum.{sum}
-use Rattle.whole.proofs.Parts.{eq-in, le-out}
+use Rattle.whole.proofs.Parts.{P-mono, N-mono, eq-in, le-out}
 use Rattle.whole.proofs.Linear.{on, difs, ints}
 use Rattle.whole.proofs.Floor.{div-rem, floor-one, floor-le, floor-next}
 use Rattle.whole.proofs.Tests.{all-of, and-i}
@@ -21,7 +21,7 @@ use Rattle.lattice.specs.Lattice.{Lattice, remainderOf}
 use Rattle.lattice.specs.Weight.{residual, spread, weight}
 use Rattle.lattice.specs.Points.{spanned, cornerAt}
 use Rattle.lattice.proofs.Grains.{grain, grain-base, spanned-remainder, spanned-lattice, off, inside, lands, lands-is, is-lands}
-use Rattle.lattice.proofs.Spread.{Spread, spread-is, mono-P, mono-N, grains, some-grain, grain-weight}
+use Rattle.lattice.proofs.Spread.{Spread, spread-is, grains, some-grain, grain-weight}
 
 between : (a b : ℤ) → a ≤ℤ b → (e : ℕ) × (b ≡ a +ℤ pos e)
 between = on _ λ a b. on _ λ c d. λ h. (c + b - (a + d), simp difs (omega ints))
@@ -104,8 +104,8 @@ module _ (d S : ℕ) (p : 0 < S) (x : ℕ → ℤ) where
 
       is : (i : ℕ) → i < suc d → y i ≡ spanned (suc d) (grain (suc d * S) x (R .lo) 0) i
       is = lands-is (suc d) S x y (R .lo) (R .lo-in) Y 0 wide (all-of (suc d) (λ i. inside (suc d * S) (off S x y (R .lo) i) 0) (λ i l. and-i (leb (N (a i)) 0) (ltb (0 + P (a i)) (suc d * S))
-          (le→leb (N (a i)) 0 (mono-N (pos 0) (a i) (lin (x i) (x (R .lo)) (y i) (y (R .lo)) (pos S) (R .below i l))))
-          (lt→ltb (0 + P (a i)) (suc d * S) (omega (arith, mono-P (a i) (pos s) (lin′ (x i) (x (R .lo)) (y i) (y (R .lo)) (pos S) (residual S x y (R .hi)) (pos s) (R .above i l) (R .is)))))))
+          (le→leb (N (a i)) 0 (N-mono (pos 0) (a i) (lin (x i) (x (R .lo)) (y i) (y (R .lo)) (pos S) (R .below i l))))
+          (lt→ltb (0 + P (a i)) (suc d * S) (omega (arith, P-mono (a i) (pos s) (lin′ (x i) (x (R .lo)) (y i) (y (R .lo)) (pos S) (residual S x y (R .hi)) (pos s) (R .above i l) (R .is)))))))
 
   -- U, for two grains from one place
   up : (b u i : ℕ) → grain (suc d * S) x b 0 i ≤ℤ grain (suc d * S) x b u i

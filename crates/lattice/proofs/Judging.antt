@@ -4,17 +4,17 @@ use mathlib.Core.Bool.{Bool, true, false}
 use mathlib.Core.List.{List}
 use Prim.Native.Nat.{ℕ, suc, _≤_, _<_}
 use native.Mathlib.Omega.{arith}
-use lib.IntN.{ℤ, pos, negsuc, natAbs}
+use lib.IntN.{ℤ, pos, natAbs}
 use lib.ListN.{length}
 use lib.Dec.{T, leb, leb→le, le→leb}
 use borrow.Author.Tests.{leb-false, lt-leb, eqb-true, eqb-false, eq-eqb, ne-eqb}
-use Rattle.whole.specs.Size.{Abs≤}
 use Rattle.whole.specs.Sum.{sum}
 use Rattle.whole.specs.Lists.{at}
-use Rattle.whole.proofs.Parts.{natAbs-is}
+use Rattle.whole.proofs.Size.{abs-of, of-abs, size-zero}
 use Rattle.whole.proofs.Tests.{all-at, all-of, all-stop, some-false, T-true}
 use Rattle.lattice.specs.Refusals.{first, coordinate-beyond, sum-not-zero}
-use Rattle.lattice.specs.Position.{farthest, Position, allNear, sumsToZero, judged, Judged, JudgedRight}
+use Rattle.lattice.specs.Limits.{farthest}
+use Rattle.lattice.specs.Position.{Position, allNear, sumsToZero, judged, Judged, JudgedRight}
 use Rattle.lattice.specs.Simplex.{Placed}
 
 -- the first test that fails
@@ -29,11 +29,6 @@ judged-five x e k = rw (e, k) refl
 pub judged-none : (x : List ℤ) → allNear x ≡ true → sumsToZero x ≡ true → judged x ≡ 0
 unfolding judged first
 judged-none x e k = rw (e, k) refl
-
--- a whole number is 0 where its size is
-size-zero : (z : ℤ) → natAbs z ≡ 0 → z ≡ pos 0
-size-zero (pos n) e = ap pos e
-size-zero (negsuc n) e = absurd (omega arith)
 
 pub sum-zero : (x : List ℤ) → sum (length x) (at x) ≡ pos 0 → sumsToZero x ≡ true
 unfolding sumsToZero
@@ -85,14 +80,8 @@ module _ (d : ℕ) (x : List ℤ) (size : length x ≡ suc d) where
       go true false e k = off e k (judged-five x e k)
       go true true e k = good e k (judged-none x e k)
 
-  sized : (z : ℤ) (B : ℕ) → natAbs z ≤ B → Abs≤ z B
-  sized z B h = record { abs = omega (arith, natAbs-is z) }
-
-  unsized : (z : ℤ) (B : ℕ) → Abs≤ z B → natAbs z ≤ B
-  unsized z B h = omega (arith, natAbs-is z)
-
   position : allNear x ≡ true → sumsToZero x ≡ true → Position d x
-  position e k = record { size = size; near = λ i l. sized (at x i) farthest (near-at e i l); zero-sum = zero-is k }
+  position e k = record { size = size; near = λ i l. abs-of (at x i) farthest (near-at e i l); zero-sum = zero-is k }
 
   pub right : Judged d x
   right = go cases
@@ -102,7 +91,7 @@ module _ (d : ℕ) (x : List ℤ) (size : length x ≡ suc d) where
 
       go : Case → Judged d x
       go (far e j) = record {
-        none = (λ k. clash (judged x) j k (λ h. omega arith), λ p. clash (judged x) j (judged-none x (near-all (λ i l. unsized (at x i) farthest (p .near i l))) (sum-zero x (sym sum-same ∙ p .zero-sum))) (λ h. omega arith));
+        none = (λ k. clash (judged x) j k (λ h. omega arith), λ p. clash (judged x) j (judged-none x (near-all (λ i l. of-abs (at x i) farthest (p .near i l))) (sum-zero x (sym sum-same ∙ p .zero-sum))) (λ h. omega arith));
         four = (λ k. far-at e, λ k. j);
         five = (λ k. clash (judged x) j k (λ h. omega arith), λ k. judged-five x (near-all (k .0)) (sum-other x (λ h. k .1 (sum-same ∙ h))));
       }

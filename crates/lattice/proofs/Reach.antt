@@ -3,26 +3,21 @@ use mathlib.Core.Path.{_≡_, refl, ap, _∙_}
 use native.Mathlib.Omega.{arith}
 use lib.IntN.{ℤ, pos, negsuc, negℤ, _+ℤ_, _-ℤ_, _*ℤ_}
 use Prim.Native.Nat.{ℕ, zero, suc, _+_, _*_, _≤_, _<_}
-use native.Mathlib.Nat.{le-of-mul-le-mul-left, mul-le-mul-left, mul-le-mul-right}
+use native.Mathlib.Nat.{mul-le-mul-left, mul-le-mul-right}
 use native.Mathlib.Decide.{decLe}
 use lib.Signed.{_≤ℤ_}
 use Rattle.whole.specs.Size.{P, N, Abs≤}
 use Rattle.whole.specs.Sum.{sum}
 use Rattle.whole.specs.Lists.{at}
-use Rattle.whole.proofs.Parts.{add-is, mul-is, P-neg, N-neg}
-use Rattle.whole.proofs.Linear.{on, difs, ints, dif-le}
+use Rattle.whole.proofs.Parts.{P-mono, N-mono, add-is, mul-is, P-neg, N-neg}
+use Rattle.whole.proofs.Linear.{on, difs, ints}
+use Rattle.whole.proofs.Ring.{le-zero-of-times, zero-le-of-times}
 use Rattle.whole.proofs.Sum.{sum-add, sum-mul, sum-neg, sum-const, sum-le}
 use Rattle.lattice.specs.Weight.{residual, spread, weight}
 use Rattle.lattice.specs.Theorems.{Reach}
-use Rattle.lattice.proofs.Spread.{Spread, spread-is, mono-P, mono-N}
+use Rattle.lattice.proofs.Spread.{Spread, spread-is}
 
 -- ---- |x_i − S y_i| is below W
-scale : (n : ℕ) (a : ℤ) → 0 < n → (pos n *ℤ a) ≤ℤ pos 0 → a ≤ℤ pos 0
-scale n = on _ λ a b. simp difs (λ h k. dif-le a b 0 0 (let l : n * a ≤ n * b = omega ints in omega (arith, le-of-mul-le-mul-left l h)))
-
-scale′ : (n : ℕ) (a : ℤ) → 0 < n → pos 0 ≤ℤ (pos n *ℤ a) → pos 0 ≤ℤ a
-scale′ n = on _ λ a b. simp difs (λ h k. dif-le 0 0 a b (let l : n * b ≤ n * a = omega ints in omega (arith, le-of-mul-le-mul-left l h)))
-
 pub near : (d S : ℕ) (x y : ℕ → ℤ) → sum (suc d) x ≡ pos 0 → sum (suc d) y ≡ pos 0 → 0 < weight d S x y → (i : ℕ) → i < suc d → (P (residual S x y i) < suc d * S) × (N (residual S x y i) < suc d * S)
 unfolding weight
 near d S x y X Y w i l = (omega (arith, hi′), omega (arith, lo′))
@@ -43,10 +38,10 @@ near d S x y X Y w i l = (omega (arith, hi′), omega (arith, lo′))
     zero-sum = sum-add (suc d) x (λ i. negℤ (pos S *ℤ y i)) ∙ ap (λ (z : ℤ). sum (suc d) x +ℤ z) (sum-neg (suc d) (λ i. pos S *ℤ y i) ∙ ap negℤ (sum-mul (suc d) (pos S) y)) ∙ lin0 S (sum (suc d) x) (sum (suc d) y) X Y
 
     least : residual S x y (R .lo) ≤ℤ pos 0
-    least = scale (suc d) (residual S x y (R .lo)) (omega arith) (rw (zero-sum, sum-const (suc d) (residual S x y (R .lo))) at (sum-le (suc d) (λ i. residual S x y (R .lo)) (residual S x y) (R .below)))
+    least = le-zero-of-times (suc d) (residual S x y (R .lo)) (omega arith) (rw (zero-sum, sum-const (suc d) (residual S x y (R .lo))) at (sum-le (suc d) (λ i. residual S x y (R .lo)) (residual S x y) (R .below)))
 
     greatest : pos 0 ≤ℤ residual S x y (R .hi)
-    greatest = scale′ (suc d) (residual S x y (R .hi)) (omega arith) (rw (zero-sum, sum-const (suc d) (residual S x y (R .hi))) at (sum-le (suc d) (residual S x y) (λ i. residual S x y (R .hi)) (R .above)))
+    greatest = zero-le-of-times (suc d) (residual S x y (R .hi)) (omega arith) (rw (zero-sum, sum-const (suc d) (residual S x y (R .hi))) at (sum-le (suc d) (residual S x y) (λ i. residual S x y (R .hi)) (R .above)))
 
     lin : (s : ℕ) (a lo hi : ℤ) → a ≤ℤ hi → hi ≡ lo +ℤ pos s → lo ≤ℤ pos 0 → a ≤ℤ pos s
     lin s = on _ λ a b. on _ λ c d. on _ λ e f. simp difs (omega ints)
@@ -55,14 +50,14 @@ near d S x y X Y w i l = (omega (arith, hi′), omega (arith, lo′))
     lin′ = on _ λ s t. on _ λ a b. on _ λ c d. on _ λ e f. simp difs (omega ints)
 
     hi′ : P (residual S x y i) ≤ s
-    hi′ = mono-P (residual S x y i) (pos s) (lin s (residual S x y i) (residual S x y (R .lo)) (residual S x y (R .hi)) (R .above i l) (R .is) least)
+    hi′ = P-mono (residual S x y i) (pos s) (lin s (residual S x y i) (residual S x y (R .lo)) (residual S x y (R .hi)) (R .above i l) (R .is) least)
 
     neg : (s : ℕ) → N (negℤ (pos s)) ≡ s
     neg zero = refl
     neg (suc s) = refl
 
     lo′ : N (residual S x y i) ≤ s
-    lo′ = omega (arith, neg s, mono-N (negℤ (pos s)) (residual S x y i) (lin′ (pos s) (residual S x y i) (residual S x y (R .lo)) (residual S x y (R .hi)) (R .below i l) (R .is) greatest))
+    lo′ = omega (arith, neg s, N-mono (negℤ (pos s)) (residual S x y i) (lin′ (pos s) (residual S x y i) (residual S x y (R .lo)) (residual S x y (R .hi)) (R .below i l) (R .is) greatest))
 
 -- ---- so |y_i| is at most 1,000,000 + d where |x_i| is at most 1,000,000
 bound : (d S a t : ℕ) → d ≤ 5 → 0 < S → S * a ≤ 1000000 + t → t < suc d * S → a ≤ 1000005

@@ -9,7 +9,7 @@ use Rattle.whole.specs.Floor.{floor, remainder}
 use Rattle.whole.proofs.Parts.{zin, zout}
 use Rattle.whole.proofs.Linear.{on, difs, ints}
 use Rattle.whole.proofs.Floor.{div-rem, remainder-lt, floor-is, remainder-is, floor-p, floor-n}
-use Rattle.lattice.specs.Position.{farthest}
+use Rattle.lattice.specs.Limits.{farthest}
 use Rattle.lattice.specs.Inner.{SplitOf, joined, Part}
 
 pub split-is : (w : ℕ) (z q r : ℤ) → z ≡ pos w *ℤ q +ℤ r → pos 0 ≤ℤ r → r <ℤ pos w → SplitOf w z q r

@@ -12,8 +12,9 @@ use native.Mathlib.Decide.{decLt, decLe}
 use lib.Dec.{T, ltb, leb, ltb→lt, lt→ltb, leb→le, le→leb}
 use Rattle.whole.specs.Size.{P, N}
 use Rattle.whole.specs.Sum.{sum, all}
-use Rattle.whole.proofs.Parts.{eq-in, add-is, le-in, le-out, P-neg, N-neg}
+use Rattle.whole.proofs.Parts.{P-mono, N-mono, eq-in, add-is, le-in, P-neg, N-neg}
 use Rattle.whole.proofs.Linear.{on, difs, ints}
+use Rattle.whole.proofs.Ring.{leZ-refl, leZ-trans, leZ-flip}
 use Rattle.whole.proofs.Tests.{all-at, all-of, and-l, and-r, and-i}
 use Rattle.whole.proofs.Sum.{pick}
 use Rattle.lattice.specs.Weight.{best, geZ, residual, spread, weight}
@@ -28,19 +29,6 @@ pub record Spread (n : ℕ) (a : ℕ → ℤ) (s : ℕ) : Type 0 where
   pub above : (i : ℕ) → i < n → a i ≤ℤ a hi
   pub below : (i : ℕ) → i < n → a lo ≤ℤ a i
   pub is : a hi ≡ a lo +ℤ pos s
-
-le-refl-ℤ : (a : ℤ) → T (leZ a a)
-le-refl-ℤ a = le-out a a (omega arith) .le
-
-le-trans-ℤ : (a b c : ℤ) → T (leZ a b) → T (leZ b c) → T (leZ a c)
-le-trans-ℤ a b c h k = le-out a c (omega (arith, le-in a b (leZ-yes h), le-in b c (leZ-yes k))) .le
-
-le-flip-ℤ : (a b : ℤ) → (T (leZ a b) → ⊥) → T (leZ b a)
-le-flip-ℤ a b f = go (decLe (P b + N a) (P a + N b))
-  where
-    go : Dec (P b + N a ≤ P a + N b) → T (leZ b a)
-    go (yes h) = le-out b a h .le
-    go (no h) = absurd (f (le-out a b (omega arith) .le))
 
 module _ (r : ℤ → ℤ → Bool) (re : (a : ℤ) → T (r a a)) (tr : (a b c : ℤ) → T (r a b) → T (r b c) → T (r a c)) (fl : (a b : ℤ) → (T (r a b) → ⊥) → T (r b a)) where
   best-is : (d : ℕ) (f : ℕ → ℤ) → (h : ℕ) × (h < suc d) × (best r d f ≡ f h) × ((i : ℕ) → i < suc d → T (r (f i) (f h)))
@@ -60,8 +48,8 @@ module _ (r : ℤ → ℤ → Bool) (re : (a : ℤ) → T (r a a)) (tr : (a b c 
 pub spread-is : (d : ℕ) (f : ℕ → ℤ) → Spread (suc d) f (spread d f)
 unfolding spread
 spread-is d f =
-    let t = best-is leZ le-refl-ℤ le-trans-ℤ le-flip-ℤ d f in
-    let b = best-is geZ le-refl-ℤ (λ a b c h k. le-trans-ℤ c b a k h) (λ a b. le-flip-ℤ b a) d f in
+    let t = best-is leZ leZ-refl leZ-trans leZ-flip d f in
+    let b = best-is geZ leZ-refl (λ a b c h k. leZ-trans c b a k h) (λ a b. leZ-flip b a) d f in
     record {
       hi = t .0;
       lo = b .0;
@@ -83,17 +71,6 @@ spread-is d f =
     lin a b h = ring a b ∙ ap (λ (z : ℤ). b +ℤ z) (up (a -ℤ b) (omega (arith, add-is a (negℤ b), P-neg b, N-neg b, le-in b a h)))
 
 -- ---- the window: the grains between the least and the greatest
-pub mono-P : (a b : ℤ) → a ≤ℤ b → P a ≤ P b
-mono-P (pos a) b h = go b (le-in (pos a) b h)
-  where
-    go : (b : ℤ) → a + N b ≤ P b + 0 → a ≤ P b
-    go b h = omega arith
-mono-P (negsuc a) b h = omega arith
-
-pub mono-N : (a b : ℤ) → a ≤ℤ b → N b ≤ N a
-mono-N a (pos b) h = omega arith
-mono-N a (negsuc b) h = omega (arith, le-in a (negsuc b) h)
-
 pub record Window (n W : ℕ) (a : ℕ → ℤ) (s : ℕ) : Type 0 where
   pub A : ℕ
   pub B : ℕ
@@ -106,14 +83,14 @@ unfolding inside
 window n W a s b q e R = record {
   A = N (a (R .lo));
   B = P (a (R .hi));
-  size = omega (arith, add-is (a (R .lo)) (pos s), eq-in (a (R .hi)) (a (R .lo) +ℤ pos s) (R .is), mono-P (a (R .lo)) (pos 0) (rw e at (R .below b q)), mono-N (pos 0) (a (R .hi)) (rw e at (R .above b q)));
+  size = omega (arith, add-is (a (R .lo)) (pos s), eq-in (a (R .hi)) (a (R .lo) +ℤ pos s) (R .is), P-mono (a (R .lo)) (pos 0) (rw e at (R .below b q)), N-mono (pos 0) (a (R .hi)) (rw e at (R .above b q)));
   into = λ u t. let at : (i : ℕ) → i < n → T (inside W (a i) u) = all-at n (λ i. inside W (a i) u) t in (
     leb→le (N (a (R .lo))) u (and-l (leb (N (a (R .lo))) u) (ltb (u + P (a (R .lo))) W) (at (R .lo) (R .lo-in))),
     ltb→lt (u + P (a (R .hi))) W (and-r (leb (N (a (R .hi))) u) (ltb (u + P (a (R .hi))) W) (at (R .hi) (R .hi-in))),
   );
   back = λ u f g. all-of n (λ i. inside W (a i) u) (λ i l. and-i (leb (N (a i)) u) (ltb (u + P (a i)) W)
-      (le→leb (N (a i)) u (omega (arith, mono-N (a (R .lo)) (a i) (R .below i l))))
-      (lt→ltb (u + P (a i)) W (omega (arith, mono-P (a i) (a (R .hi)) (R .above i l)))));
+      (le→leb (N (a i)) u (omega (arith, N-mono (a (R .lo)) (a i) (R .below i l))))
+      (lt→ltb (u + P (a i)) W (omega (arith, P-mono (a i) (a (R .hi)) (R .above i l)))));
 }
 
 -- ---- how many numbers stand in a window

@@ -12,7 +12,7 @@ use Rattle.whole.specs.Floor.{floor, remainder}
 use Rattle.whole.specs.Sum.{sum}
 use Rattle.whole.specs.Lists.{at, tab}
 use Rattle.lattice.specs.Points.{spanned}
-use Rattle.lattice.specs.Position.{farthest}
+use Rattle.lattice.specs.Limits.{most-W, farthest}
 
 -- f 0, …, f (n - 1), and 0 in the rest of six places
 unfoldable pub padded : ℕ → (ℕ → ℤ) → List ℤ
@@ -26,7 +26,7 @@ peak (suc n) f = max (peak n f) (f n)
 -- "At most 6·64 = 384."
 pub record Total (w : ℕ) : Type 0 where
   pub some : 0 < w
-  pub most : w ≤ 384
+  pub most : w ≤ most-W
 
 -- q and r are the floor and the remainder of z by w
 pub record SplitOf (w : ℕ) (z q r : ℤ) : Type 0 where

@@ -1,3 +1,4 @@
+pub mod Limits
 pub mod Lattice
 pub mod Weight
 pub mod Points

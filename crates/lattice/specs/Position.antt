@@ -10,11 +10,8 @@ use lib.Dec.{leb, eqb}
 use Rattle.whole.specs.Size.{Abs≤}
 use Rattle.whole.specs.Sum.{sum, all}
 use Rattle.whole.specs.Lists.{at}
+use Rattle.lattice.specs.Limits.{farthest}
 use Rattle.lattice.specs.Refusals.{first, coordinate-beyond, sum-not-zero}
-
--- a coordinate is from -1,000,000 to 1,000,000
-abbrev pub farthest : ℕ
-farthest = 1000000
 
 -- "A position is d+1 signed 32-bit numbers with sum 0, each from -1,000,000 to 1,000,000."
 pub record Position (d : ℕ) (x : List ℤ) : Type 0 where

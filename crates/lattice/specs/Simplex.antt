@@ -10,7 +10,7 @@ use Rattle.whole.specs.Size.{Abs≤}
 use Rattle.whole.specs.Lists.{at, tab}
 use Rattle.lattice.specs.Weight.{weight}
 use Rattle.lattice.specs.Points.{cornerOf}
-use Rattle.lattice.specs.Position.{farthest}
+use Rattle.lattice.specs.Limits.{most-d, most-S, farthest}
 
 -- the weight in a slot, 0 where it has no point
 abbrev pub weightIn : ℕ → ℕ → List ℤ → List (List ℤ) → ℕ
@@ -29,7 +29,7 @@ slotWeights d S x n = tab 6 (λ k. weightIn d S x (cornerOf d S x n k))
 unfoldable pub slotCoords : ℕ → ℕ → List ℤ → ℕ → List ℤ
 slotCoords d S x n = tab 36 (λ t. coordIn (cornerOf d S x n (t / 6)) (t % 6))
 
--- Slot k has the point of remainder k, its weight and its coordinates, and is 0 throughout where there is none.
+-- Slot k has what `points` has of remainder k: the point with its weight and its coordinates, and 0 throughout where there is none.
 pub record Encloses (d S : ℕ) (x : List ℤ) (weights : List ℕ) (coords : List ℤ) : Type 0 where
   pub weights-are : weights ≡ slotWeights d S x (suc d)
   pub coords-are : coords ≡ slotCoords d S x (suc d)
@@ -41,8 +41,8 @@ slot d weights coords k = cond (eqb (getD weights k 0) 0) [] ((tab (suc d) (λ i
 -- "Dimension d: 1 to 5. Fineness S: 1 to 64." and d + 1 coordinates within ±1,000,000
 pub record Placed (d S : ℕ) (x : List ℤ) : Type 0 where
   pub d-least : 1 ≤ d
-  pub d-most : d ≤ 5
+  pub d-most : d ≤ most-d
   pub S-least : 1 ≤ S
-  pub S-most : S ≤ 64
+  pub S-most : S ≤ most-S
   pub size : length x ≡ suc d
   pub near : (i : ℕ) → i < suc d → Abs≤ (at x i) farthest

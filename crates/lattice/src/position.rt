@@ -5,15 +5,9 @@ ghost use lib.ListN.{length};
 ghost use Rattle.whole.specs.Sum.{sum};
 ghost use Rattle.whole.specs.Lists.{at};
 ghost use Rattle.lattice.specs.Position.{allNear, judged};
-
-// A coordinate is from -1,000,000 to 1,000,000.
-pub const FARTHEST: u32 = 1000000;
-
-// Refusal 4: a coordinate is beyond that.
-pub const COORDINATE_BEYOND: u8 = 4;
-
-// Refusal 5: the coordinates don't sum to 0.
-pub const SUM_NOT_ZERO: u8 = 5;
+use crate::limits::FARTHEST;
+use crate::refusals::COORDINATE_BEYOND;
+use crate::refusals::SUM_NOT_ZERO;
 
 fn all_near(x: &[i32]) -> bool
     ensures { λ r. ⌜ r ≡ allNear (now (x .entry)) ⌝ }

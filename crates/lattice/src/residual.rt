@@ -2,7 +2,7 @@
 ghost use lib.IntN.{_-ℤ_};
 ghost use lib.ListN.{length};
 ghost use Rattle.whole.specs.Size.{Abs≤};
-ghost use Rattle.lattice.specs.Position.{farthest};
+ghost use Rattle.lattice.specs.Limits.{farthest};
 ghost use Rattle.lattice.specs.Inner.{Total, SplitOf, joined, Part, Between, coordinate, Near, ResidualsOf};
 
 // x = w * floor + rest, with rest from 0 to w - 1.

@@ -1,6 +1,6 @@
 -- Floor and remainder: that they are the one pair with z = m·q + r and 0 ≤ r < m, their orders, and how the machine's quotient and remainder,
 -- which go towards zero, give them. Assumes nothing.
-use mathlib.Core.Path.{_≡_, sym, _∙_, ap}
+use mathlib.Core.Path.{_≡_, refl, sym, _∙_, ap}
 use mathlib.Core.Logic.{⊎-elim}
 use Prim.Native.Nat.{ℕ, suc, _-_, _/_, _%_, _<_, _≤_}
 use native.Mathlib.Nat.{mul-le-mul-left, mod-lt, div-add-mod', div-le-self, div-lt-self}
@@ -8,7 +8,7 @@ use native.Mathlib.Omega.{arith}
 use lib.IntN.{ℤ, pos, negsuc, natAbs, _+ℤ_, _-ℤ_, _*ℤ_}
 use lib.Signed.{_≤ℤ_, _<ℤ_, quotZ, remZ}
 use Rattle.whole.specs.Size.{P, N, Abs≤}
-use Rattle.whole.specs.Floor.{floor, remainder, DividedBy, DividedOnce}
+use Rattle.whole.specs.Floor.{floor, remainder, DividedBy, DividedOnce, RemainderCases}
 use Rattle.whole.proofs.Parts.{N-neg, le-in, lt-in, zin, zout}
 use Rattle.whole.proofs.Linear.{on, difs, ints}
 use Rattle.whole.proofs.Readings.{zed, zlt, zeq, ole, olt, oeq, sizes}
@@ -130,6 +130,10 @@ divided z m h = record { is = div-rem z m h; less = remainder-lt z m h }
 
 pub divided-once : DividedOnce
 divided-once z q m r D = div-unique z q m r (D .less) (D .is)
+
+pub remainder-cases : RemainderCases
+unfolding remainder
+remainder-cases = record { minus-four = refl; minus-one = refl; two = refl }
 
 pub floor-is : (z q : ℤ) (m r : ℕ) → r < m → z ≡ pos m *ℤ q +ℤ pos r → floor z m ≡ q
 floor-is z q m r h e = sym (div-unique z q m r h e .0)

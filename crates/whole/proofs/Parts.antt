@@ -89,6 +89,18 @@ eq-out (pos a) (negsuc b) h = let z : ⊥ = omega arith in absurd z
 eq-out (negsuc a) (pos b) h = let z : ⊥ = omega arith in absurd z
 eq-out (negsuc a) (negsuc b) h = let e : a ≡ b = omega arith in ap negsuc e
 
+-- each part goes with the order
+pub P-mono : (a b : ℤ) → a ≤ℤ b → P a ≤ P b
+P-mono (pos a) b h = go b (le-in (pos a) b h)
+  where
+    go : (b : ℤ) → a + N b ≤ P b + 0 → a ≤ P b
+    go b h = omega arith
+P-mono (negsuc a) b h = omega arith
+
+pub N-mono : (a b : ℤ) → a ≤ℤ b → N b ≤ N a
+N-mono a (pos b) h = omega arith
+N-mono a (negsuc b) h = omega (arith, le-in a (negsuc b) h)
+
 -- ---- what a width holds. One statement, since omega applies one rule to a fact. It splits once, and where that is not needed it says  P z + N z ≤ 2 ^ hbits w
 pub sfits-in : (w : Width) (z : ℤ) → SFits w z → P z + N z + (1 - N z) ≤ 2 ^ hbits w
 sfits-in w (pos n) h = omega (arith, h .sfits)

@@ -1,14 +1,16 @@
 -- The laws of the ring ℤ and of its order. Assumes nothing.
 use mathlib.Core.Path.{_≡_, refl, _∙_, ap}
 use mathlib.Core.Logic.{_⊎_, inl, inr}
-use Prim.Native.Nat.{ℕ, suc, _+_, _*_, _≤_}
-use native.Mathlib.Nat.{mul-le-mul-right}
+use Prim.Native.Nat.{_<_, ℕ, suc, _+_, _*_, _≤_}
+use native.Mathlib.Nat.{le-of-mul-le-mul-left, mul-le-mul-right}
 use native.Mathlib.Decide.{decLe}
 use native.Mathlib.Omega.{arith}
 use lib.IntN.{ℤ, pos, negsuc, negℤ, _+ℤ_, _-ℤ_, _*ℤ_}
-use lib.Signed.{_≤ℤ_, _<ℤ_}
+use lib.Signed.{_≤ℤ_, _<ℤ_, leZ, leZ-yes}
+use lib.Dec.{T}
 use Rattle.whole.specs.Size.{P, N}
 use Rattle.whole.proofs.Parts.{le-in, lt-in, le-out, lt-out, mul-is, zin, zout}
+use Rattle.whole.proofs.Linear.{on, difs, ints, dif-le}
 use Rattle.whole.proofs.Readings.{zed, zlin, zle, zeq, scale}
 
 -- ---- the ring
@@ -129,3 +131,24 @@ negative-P {z = negsuc n} h = refl
 
 pub mul-mono-z : {a b : ℤ} (k : ℤ) → pos 0 ≤ℤ k → a ≤ℤ b → (k *ℤ a) ≤ℤ (k *ℤ b)
 mul-mono-z {a} {b} k p h = zle (search zed depth 14) (omega (arith, mul-le-mul-right (P k) (le-in a b h), ap (λ (x : ℕ). x * P a) (nonneg-N p), ap (λ (x : ℕ). x * P b) (nonneg-N p), ap (λ (x : ℕ). x * N a) (nonneg-N p), ap (λ (x : ℕ). x * N b) (nonneg-N p)))
+
+-- a multiple by a positive number has the sign of the number
+pub le-zero-of-times : (n : ℕ) (a : ℤ) → 0 < n → (pos n *ℤ a) ≤ℤ pos 0 → a ≤ℤ pos 0
+le-zero-of-times n = on _ λ a b. simp difs (λ h k. dif-le a b 0 0 (let l : n * a ≤ n * b = omega ints in omega (arith, le-of-mul-le-mul-left l h)))
+
+pub zero-le-of-times : (n : ℕ) (a : ℤ) → 0 < n → pos 0 ≤ℤ (pos n *ℤ a) → pos 0 ≤ℤ a
+zero-le-of-times n = on _ λ a b. simp difs (λ h k. dif-le 0 0 a b (let l : n * b ≤ n * a = omega ints in omega (arith, le-of-mul-le-mul-left l h)))
+
+-- ---- the order as a test
+pub leZ-refl : (a : ℤ) → T (leZ a a)
+leZ-refl a = le-out a a (omega arith) .le
+
+pub leZ-trans : (a b c : ℤ) → T (leZ a b) → T (leZ b c) → T (leZ a c)
+leZ-trans a b c h k = le-out a c (omega (arith, le-in a b (leZ-yes h), le-in b c (leZ-yes k))) .le
+
+pub leZ-flip : (a b : ℤ) → (T (leZ a b) → ⊥) → T (leZ b a)
+leZ-flip a b f = go (decLe (P b + N a) (P a + N b))
+  where
+    go : Dec (P b + N a ≤ P a + N b) → T (leZ b a)
+    go (yes h) = le-out b a h .le
+    go (no h) = absurd (f (le-out a b (omega arith) .le))

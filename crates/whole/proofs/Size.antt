@@ -1,16 +1,16 @@
 -- Bounds on the size of a number: of a sum or another expression by its reading, of a product, and that a small number fits a machine's. `Abs≤ z B` is
 -- P z + N z ≤ B, which omega reads. Assumes nothing.
-use mathlib.Core.Path.{_≡_}
+use mathlib.Core.Path.{_≡_, ap}
 use Prim.Native.Nat.{ℕ, _+_, _*_, _<_, _≤_, suc}
 use native.Mathlib.Nat.{mul-le-mul}
 use native.Mathlib.Omega.{arith}
-use lib.IntN.{ℤ, pos, negsuc, negℤ, _*ℤ_}
+use lib.IntN.{ℤ, pos, negsuc, negℤ, natAbs, _*ℤ_}
 use lib.Signed.{_≤ℤ_}
 use mir.Syntax.{w32}
 use mir.Val.{SFits}
 use mir.ValLaws.{toZ-ofZ}
 use Rattle.whole.specs.Size.{P, N, Abs≤}
-use Rattle.whole.proofs.Parts.{P-neg, N-neg, le-in, eq-in, sfits-make, zout}
+use Rattle.whole.proofs.Parts.{natAbs-is, P-neg, N-neg, le-in, eq-in, sfits-make, zout}
 use Rattle.whole.proofs.Readings.{zed, zle, ole, Rd, Holds, W32}
 
 pub abs-pair : {z : ℤ} {B : ℕ} → negℤ (pos B) ≤ℤ z → z ≤ℤ pos B → Abs≤ z B
@@ -53,3 +53,14 @@ fits32 {z} h k = sfits-make w32 z (omega arith) (omega arith)
 
 pub back32 : {z : ℤ} {B : ℕ} → Abs≤ z B → B < 2147483648 → W32 z ≡ z
 back32 {z} h k = toZ-ofZ w32 z (fits32 h k)
+
+-- ---- the size as the library has it
+pub abs-of : (z : ℤ) (B : ℕ) → natAbs z ≤ B → Abs≤ z B
+abs-of z B h = record { abs = omega (arith, natAbs-is z) }
+
+pub of-abs : (z : ℤ) (B : ℕ) → Abs≤ z B → natAbs z ≤ B
+of-abs z B h = omega (arith, natAbs-is z)
+
+pub size-zero : (z : ℤ) → natAbs z ≡ 0 → z ≡ pos 0
+size-zero (pos n) e = ap pos e
+size-zero (negsuc n) e = absurd (omega arith)

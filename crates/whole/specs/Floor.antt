@@ -26,6 +26,12 @@ DividedBy = (z : ℤ) (m : ℕ) → 0 < m → Divided z m (floor z m) (remainder
 abbrev pub DividedOnce : Type 0
 DividedOnce = (z q : ℤ) (m r : ℕ) → Divided z m q r → (q ≡ floor z m) × (r ≡ remainder z m)
 
+-- "-4 leaves 2 on division by 3"; "(-1,-1,2) is remainder 2, not mixed."
+pub record RemainderCases : Type 0 where
+  pub minus-four : remainder (negsuc 3) 3 ≡ 2
+  pub minus-one : remainder (negsuc 0) 3 ≡ 2
+  pub two : remainder (pos 2) 3 ≡ 2
+
 -- A divisor that a program takes: not 0, and an i32 holds it.
 pub record Divisor (m : ℕ) : Type 0 where
   pub positive : 0 < m

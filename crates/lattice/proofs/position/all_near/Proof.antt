@@ -13,7 +13,8 @@ use mir.Val.{SFits}
 use mir.Facts.{toZ-ofZ}
 use Rattle.whole.specs.Sum.{all}
 use Rattle.whole.specs.Lists.{at}
-use Rattle.lattice.specs.Position.{farthest, allNear}
+use Rattle.lattice.specs.Limits.{farthest}
+use Rattle.lattice.specs.Position.{allNear}
 use Rattle.whole.proofs.Tests.{all-more, all-stop}
 use Rattle.lattice.proofs.position.all_near.Statement.{statement}
 use Rattle.lattice.proofs.position.all_near.Tie as tie

@@ -9,7 +9,7 @@ use Rattle.whole.specs.Floor.{floor, remainder}
 use Rattle.whole.proofs.Parts.{zin}
 use Rattle.whole.proofs.Readings.{zlin, zlow, zeq, zfits, eq-plus, W32, W64}
 use Rattle.whole.proofs.Floor.{div-rem, remainder-lt}
-use Rattle.lattice.specs.Position.{farthest}
+use Rattle.lattice.specs.Limits.{farthest}
 use Rattle.lattice.proofs.Splits.{part-of}
 use Rattle.lattice.proofs.residual.split_of.Statement.{statement}
 use Rattle.lattice.proofs.residual.split_of.Tie as tie

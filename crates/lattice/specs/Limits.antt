@@ -1,0 +1,22 @@
+-- The limits of document 01's "Settings and sizes", each once.
+use Prim.Native.Nat.{ℕ}
+
+-- "Dimension d: 1 to 5."
+abbrev pub most-d : ℕ
+most-d = 5
+
+-- "Fineness S: 1 to 64."
+abbrev pub most-S : ℕ
+most-S = 64
+
+-- "W = (d+1)·S is the weight total. At most 6·64 = 384."
+abbrev pub most-W : ℕ
+most-W = 384
+
+-- a coordinate of a position is "from -1,000,000 to 1,000,000"
+abbrev pub farthest : ℕ
+farthest = 1000000
+
+-- those of a stored point are "within ±1,000,005"
+abbrev pub farthest-point : ℕ
+farthest-point = 1000005
