@@ -1,11 +1,9 @@
 // The enclosing simplex of a position: its points of weight above 0, a slot for each remainder.
 ghost use mathlib.Core.Path.{_≡_};
 ghost use Prim.Native.Nat.{_*_};
-ghost use lib.ListN.{set};
 ghost use Rattle.whole.specs.Lists.{splice};
 ghost use Rattle.lattice.specs.Inner.{Room};
 ghost use Rattle.lattice.specs.Simplex.{Placed, Encloses};
-use crate::corner::Corner;
 use crate::corner::corner_of;
 use crate::residual::residuals_of;
 
@@ -16,26 +14,21 @@ pub struct Simplex {
     pub coords: [i32; 36],
 }
 
-// A corner in the slot of its remainder. Places with equal remainders have the same corner, which is
-// then put there again.
-fn put(s: Simplex, c: Corner) -> Simplex
-    requires { ⌜ Room (s .coords) (c .point) (c .slot) ⌝ }
-    ensures { λ r. ⌜ (r .weights ≡ set (s .weights) (c .slot) (c .weight)) × (r .coords ≡ splice (s .coords) (6 * c .slot) (c .point)) ⌝ }
+// A point's coordinates into its slot.
+fn put_point(coords: &mut [i32; 36], slot: usize, point: [i32; 6])
+    requires { ⌜ Room (now coords) point slot ⌝ }
+    ensures { λ r. ⌜ now (coords .exit) ≡ splice (now (coords .entry)) (6 * slot) point ⌝ }
 {
-    let mut weights = s.weights;
-    let mut coords = s.coords;
-    let y = c.point;
-    let k = c.slot;
-    weights[k] = c.weight;
-    let start = 6 * k;
+    let start = 6 * slot;
     for i in 0..6 {
-        let v = y[i];
+        let v = point[i];
         coords[start + i] = v;
     }
-    Simplex { weights, coords }
 }
 
-// The points of weight above 0 for the d + 1 coordinates x at this fineness.
+// The points of weight above 0 for the d + 1 coordinates x at this fineness: the corner of each
+// place, in the slot of its remainder. Places with equal remainders have the same corner, which is
+// then put there again.
 pub fn enclose(x: &[i32], d: usize, fineness: u32) -> Simplex
     requires { ⌜ Placed d fineness (now x) ⌝ }
     ensures { λ r. ⌜ Encloses d fineness (now (x .entry)) (r .weights) (r .coords) ⌝ }
@@ -43,13 +36,14 @@ pub fn enclose(x: &[i32], d: usize, fineness: u32) -> Simplex
     let n = d + 1;
     let w = (n as u32) * fineness;
     let res = residuals_of(x, w);
-    let mut s = Simplex {
-        weights: [0; 6],
-        coords: [0; 36],
-    };
+    let mut weights = [0u32; 6];
+    let mut coords = [0i32; 36];
     for j in 0..n {
         let c = corner_of(res, n, w, j);
-        s = put(s, c);
+        let k = c.slot;
+        let y = c.point;
+        weights[k] = c.weight;
+        put_point(&mut coords, k, y);
     }
-    s
+    Simplex { weights, coords }
 }

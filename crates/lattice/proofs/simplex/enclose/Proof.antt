@@ -2,22 +2,22 @@
 use borrow.Author.Needs.{needs}
 use native.Mathlib.Numerals.{add-one}
 use native.Mathlib.Omega.{arith}
-use mathlib.Core.Path.{_≡_, ap, sym, _∙_}
+use mathlib.Core.Path.{_≡_, refl, ap, sym, _∙_}
 use Prim.Native.Nat.{suc, _+_, _≤_, _<_, _-_}
 use Rattle.whole.specs.Lists.{at}
 use Rattle.lattice.specs.Weight.{W}
 use Rattle.lattice.specs.Simplex.{slotWeights, slotCoords}
-use Rattle.lattice.specs.Inner.{CornerIs}
+use Rattle.lattice.specs.Inner.{CornerIs, Room}
 use Rattle.lattice.proofs.Slots.{weights-turn, coords-turn}
 use Rattle.lattice.proofs.Enclosing.{near-of, parts-of, corner-is, no-weights, no-coords, room-of}
 use Rattle.lattice.proofs.simplex.enclose.Statement.{statement}
 use Rattle.lattice.proofs.simplex.enclose.Tie as tie
 
 abbrev Inv-loop : tie.InvT-loop
-Inv-loop x d fineness n w res s₀ j₀ s j = (j ≤ d + 1) × (s .weights ≡ slotWeights d fineness x j) × (s .coords ≡ slotCoords d fineness x j)
+Inv-loop x d fineness n w res weights₀ coords₀ j₀ weights coords j = (j ≤ d + 1) × (weights ≡ slotWeights d fineness x j) × (coords ≡ slotCoords d fineness x j)
 
 abbrev μ-loop : tie.MeasureT-loop
-μ-loop x d fineness n w res s₀ j₀ s j = d + 1 - j
+μ-loop x d fineness n w res weights₀ coords₀ j₀ weights coords j = d + 1 - j
 
 add-n : tie.Need-add-n Inv-loop μ-loop
 add-n c = search needs
@@ -44,8 +44,18 @@ here : (c : tie.After-corner-of Inv-loop μ-loop) →
     CornerIs (W (a .d) (a .fineness)) (suc (a .d)) (at (a .x .now)) (c .before .before .loop .j) (r .point) (r .slot) (r .weight)
 here c = let s = c .before .before .before in corner-is _ _ _ (s .before .pre) (s .residuals-of .ensures) (c .before .before .loop .j) (search needs) (c .corner-of .ensures)
 
-put-requires : tie.Need-put-requires Inv-loop μ-loop
-put-requires c κs = let l = c .before .before in let p = l .before .before .pre in room-of _ _ _ (l .loop .j) (p .S-least) (p .d-most) (omega arith) (here c) (l .loop .inv .2)
+-- its slot is one of the six, and the slots are there
+room : (c : tie.After-corner-of Inv-loop μ-loop) → Room (c .before .before .loop .coords) (c .corner-of .result .point) (c .corner-of .result .slot)
+room c = let l = c .before .before in let p = l .before .before .pre in room-of _ _ _ (l .loop .j) (p .S-least) (p .d-most) (omega arith) (here c) (l .loop .inv .2)
+
+mul-weights : tie.Need-mul-weights Inv-loop μ-loop
+mul-weights c = let r = room (c .before) in omega arith
+
+array-write-weights : tie.Need-array-write-weights Inv-loop μ-loop
+array-write-weights c = room (c .before) .slot-in
+
+put-point-requires : tie.Need-put-point-requires Inv-loop μ-loop
+put-point-requires c κs = room (c .before .before)
 
 add-j : tie.Need-add-j Inv-loop μ-loop
 add-j c = search needs
@@ -55,13 +65,14 @@ loop-less c = search needs
 
 loop-again : tie.Need-loop-again Inv-loop μ-loop
 loop-again c =
-    let l = c .before .before .before in
+    let k = c .before .before .before in
+    let l = k .before .before in
     let p = l .before .before .pre in
     let q : l .loop .j < suc (l .before .before .args .d) = omega arith in
     let e = sym (add-one (l .loop .j)) in (
       search needs,
-      weights-turn _ _ _ (l .loop .j) (p .S-least) q (here (c .before)) (p .d-most) (l .loop .inv .1) (c .put .ensures .0) ∙ ap (slotWeights _ _ _) e,
-      coords-turn _ _ _ (l .loop .j) (p .S-least) q (here (c .before)) (p .d-most) (l .loop .inv .2) (c .put .ensures .1) ∙ ap (slotCoords _ _ _) e,
+      weights-turn _ _ _ (l .loop .j) (p .S-least) q (here k) (p .d-most) (l .loop .inv .1) refl ∙ ap (slotWeights _ _ _) e,
+      coords-turn _ _ _ (l .loop .j) (p .S-least) q (here k) (p .d-most) (l .loop .inv .2) (c .put-point .ensures) ∙ ap (slotCoords _ _ _) e,
     )
 
 returns : tie.Need-returns Inv-loop μ-loop
@@ -82,7 +93,9 @@ enclose-spec =
     residuals-of-requires
     loop-holds
     corner-of-requires
-    put-requires
+    mul-weights
+    array-write-weights
+    put-point-requires
     add-j
     loop-less
     loop-again
