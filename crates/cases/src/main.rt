@@ -6,9 +6,9 @@ ghost use mathlib.Core.Path.{_≡_};
 ghost use Prim.Native.Nat.{_<_, _≤_};
 ghost use lib.ListN.{length};
 use lattice::position::judge;
-use lattice::simplex::Simplex;
-use lattice::simplex::enclose;
 use libc::STDOUT_FILENO;
+use simplex::Simplex;
+use simplex::enclose;
 
 fn print_number(x: i32) {
     io::write_all(STDOUT_FILENO, b" ");

@@ -15,7 +15,6 @@ use Rattle.whole.proofs.Tests.{all-at, all-of, all-stop, some-false, T-true}
 use Rattle.lattice.specs.Refusals.{first, coordinate-beyond, sum-not-zero}
 use Rattle.lattice.specs.Limits.{farthest}
 use Rattle.lattice.specs.Position.{Position, allNear, sumsToZero, judged, Judged, JudgedRight}
-use Rattle.lattice.specs.Simplex.{Placed}
 
 -- the first test that fails
 pub judged-four : (x : List ℤ) → allNear x ≡ false → judged x ≡ coordinate-beyond
@@ -108,7 +107,3 @@ module _ (d : ℕ) (x : List ℤ) (size : length x ≡ suc d) where
 
 pub judged-right : JudgedRight
 judged-right d x size = right d x size
-
--- a position that was judged good may be enclosed
-pub placed : (d S : ℕ) (x : List ℤ) → 1 ≤ d → d ≤ 5 → 1 ≤ S → S ≤ 64 → length x ≡ suc d → judged x ≡ 0 → Placed d S x
-placed d S x a b c e size j = let p = judged-right d x size .none .0 j in record { d-least = a; d-most = b; S-least = c; S-most = e; size = size; near = p .near }

@@ -4,11 +4,5 @@ pub mod Corners
 pub mod Points
 pub mod Only
 pub mod Reach
-pub mod CornerWeight
 pub mod Judging
-pub mod Splits
-pub mod Padding
-pub mod Steps
-pub mod Slots
-pub mod Enclosing
 pub mod Starred

@@ -4,7 +4,5 @@ pub mod Weight
 pub mod Points
 pub mod Refusals
 pub mod Position
-pub mod Simplex
-pub mod Inner
 pub mod Theorems
 pub mod Starred

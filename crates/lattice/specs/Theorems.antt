@@ -5,13 +5,12 @@ use Prim.Native.Nat.{ℕ, suc, _≤_, _<_}
 use lib.IntN.{ℤ, pos, _*ℤ_}
 use Rattle.whole.specs.Size.{Abs≤}
 use Rattle.whole.specs.Sum.{sum, over}
-use Rattle.whole.specs.Lists.{at, collect}
+use Rattle.whole.specs.Lists.{at}
 use Rattle.lattice.specs.Limits.{most-d, farthest-point}
 use Rattle.lattice.specs.Lattice.{Point, remainderOf}
 use Rattle.lattice.specs.Weight.{W, weight}
-use Rattle.lattice.specs.Points.{Points, points, weighed}
+use Rattle.lattice.specs.Points.{Points, points}
 use Rattle.lattice.specs.Position.{Position}
-use Rattle.lattice.specs.Simplex.{Encloses, slot}
 
 -- "at most one point of each remainder has weight above 0"
 abbrev pub OneOfEach : Type 0
@@ -38,13 +37,3 @@ Moment = (d S : ℕ) → 0 < S → (x : List ℤ) → sum (suc d) (at x) ≡ pos
 -- "all d+1 coordinates are within ±1,000,005": those of a point of weight above 0 for a position
 abbrev pub Reach : Type 0
 Reach = (d S : ℕ) → d ≤ most-d → 0 < S → (x y : List ℤ) → Position d x → Point d y → 0 < weight d S (at x) (at y) → (i : ℕ) → i < suc d → Abs≤ (at y i) farthest-point
-
--- the slots of the enclosing simplex, in order, hold the points of weight above 0, each with its weight, and nothing else
-abbrev pub SlotsAreThePoints : Type 0
-SlotsAreThePoints = (d S : ℕ) → d ≤ most-d → 0 < S → (x : List ℤ) (weights : List ℕ) (coords : List ℤ) → Encloses d S x weights coords
-    → collect (suc d) (slot d weights coords) ≡ weighed d S x
-
--- "two outcomes allowed by a contract are equal": those of `enclose`
-abbrev pub EnclosedOnce : Type 0
-EnclosedOnce = (d S : ℕ) (x : List ℤ) (weights weights′ : List ℕ) (coords coords′ : List ℤ) → Encloses d S x weights coords → Encloses d S x weights′ coords′
-    → (weights ≡ weights′) × (coords ≡ coords′)

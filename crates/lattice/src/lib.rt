@@ -1,8 +1,6 @@
-// The permutohedral lattice around a position: whether a list of coordinates is a position, and the
-// lattice points of weight above 0 for one, the corners of the simplex that encloses it.
-mod corner;
+// The permutohedral lattice: its limits, the refusal numbers of a position, and whether a list of
+// coordinates is one. What a lattice point is and what it weighs for a position stands in specs/,
+// and what is true of that for every d in proofs/.
 pub mod limits;
 pub mod position;
 pub mod refusals;
-mod residual;
-pub mod simplex;
