@@ -1,7 +1,7 @@
 // The corner of a place j: the lattice point of z[i] = floor((x[i] - x[j]) / W), from the residual.
 ghost use mathlib.Core.Path.{_≡_};
 ghost use Prim.Native.Nat.{_<_, max};
-ghost use lib.IntN.{pos, natAbs, _-ℤ_, _*ℤ_};
+ghost use lib.IntN.{pos, _-ℤ_, _*ℤ_};
 ghost use Rattle.whole.specs.Lists.{at};
 ghost use Rattle.simplex.specs.Inner.{Parts, coordinate, padded, StepsFrom, Span, CornerIs};
 use crate::residual::Residuals;
@@ -27,6 +27,7 @@ fn larger(a: u32, b: u32) -> u32
     if a < b { b } else { a }
 }
 
+// One difference a turn: place i from place j.
 fn steps_from(res: Residuals, n: usize, w: u32, j: usize) -> Steps
     requires { ⌜ Parts w n (res .floors) (res .rests) ⌝ }
     requires { ⌜ j < n ⌝ }
@@ -57,6 +58,8 @@ fn spanned_by(z: [i32; 6], total: i32, n: usize) -> [i32; 6]
     y
 }
 
+// The corner of place j. Its weight is W less the greatest remainder of the differences from j, since
+// those are its residuals up to a constant.
 pub fn corner_of(res: Residuals, n: usize, w: u32, j: usize) -> Corner
     requires { ⌜ Parts w n (res .floors) (res .rests) ⌝ }
     requires { ⌜ j < n ⌝ }

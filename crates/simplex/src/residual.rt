@@ -17,6 +17,7 @@ pub struct Residuals {
     pub rests: [i32; 6],
 }
 
+// In 64 bits, and down to 32 once it is known to fit: one division, and the remainder by a product.
 fn split_of(x: i32, w: u32) -> Split
     requires { ⌜ Abs≤ x farthest ⌝ }
     requires { ⌜ Total w ⌝ }
@@ -31,6 +32,7 @@ fn split_of(x: i32, w: u32) -> Split
     }
 }
 
+// The splits of the coordinates in their order, and 0 in the places that are left.
 pub fn residuals_of(x: &[i32], w: u32) -> Residuals
     requires { ⌜ Near w (now x) (length (now x)) ⌝ }
     ensures { λ r. ⌜ ResidualsOf w (length (now (x .entry))) (now (x .entry)) (r .floors) (r .rests) ⌝ }
