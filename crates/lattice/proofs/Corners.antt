@@ -107,7 +107,7 @@ module _ (d S : ℕ) (p : 0 < S) (x : ℕ → ℤ) where
           (le→leb (N (a i)) 0 (N-mono (pos 0) (a i) (lin (x i) (x (R .lo)) (y i) (y (R .lo)) (pos S) (R .below i l))))
           (lt→ltb (0 + P (a i)) (suc d * S) (omega (arith, P-mono (a i) (pos s) (lin′ (x i) (x (R .lo)) (y i) (y (R .lo)) (pos S) (residual S x y (R .hi)) (pos s) (R .above i l) (R .is)))))))
 
-  -- U, for two grains from one place
+  -- two grains from one place that leave one remainder land on one point
   up : (b u i : ℕ) → grain (suc d * S) x b 0 i ≤ℤ grain (suc d * S) x b u i
   up b u i = floor-le (x i -ℤ x b +ℤ pos 0) (x i -ℤ x b +ℤ pos u) (suc d * S) wide (lin u (x i -ℤ x b))
     where

@@ -7,7 +7,7 @@ use native.Mathlib.Omega.{arith}
 use lib.IntN.{ℤ, pos, negsuc, negℤ, natAbs, _+ℤ_, _-ℤ_, _*ℤ_}
 use lib.Signed.{_≤ℤ_, leZ, leZ-yes}
 use Prim.Native.Nat.{ℕ, zero, suc, _+_, _*_, _-_, _≤_, _<_, min}
-use native.Mathlib.Nat.{le-refl, eq-or-lt-of-le, le-of-suc-le-suc}
+use native.Mathlib.Nat.{le-antisymm, le-refl, eq-or-lt-of-le, le-of-suc-le-suc}
 use native.Mathlib.Decide.{decLt, decLe}
 use lib.Dec.{T, ltb, leb, ltb→lt, lt→ltb, leb→le, le→leb}
 use Rattle.whole.specs.Size.{P, N}
@@ -69,6 +69,16 @@ spread-is d f =
 
     lin : (a b : ℤ) → b ≤ℤ a → a ≡ b +ℤ pos (natAbs (a -ℤ b))
     lin a b h = ring a b ∙ ap (λ (z : ℤ). b +ℤ z) (up (a -ℤ b) (omega (arith, add-is a (negℤ b), P-neg b, N-neg b, le-in b a h)))
+
+-- there is one such number
+pub spread-one : (n : ℕ) (a : ℕ → ℤ) (s t : ℕ) → Spread n a s → Spread n a t → s ≡ t
+spread-one n a s t A B = le-antisymm (half s t A B) (half t s B A)
+  where
+    lin : (s t : ℕ) (h l h′ l′ : ℤ) → h ≤ℤ h′ → l′ ≤ℤ l → h ≡ l +ℤ pos s → h′ ≡ l′ +ℤ pos t → s ≤ t
+    lin s t = on _ λ a b. on _ λ c d. on _ λ e f. on _ λ g h. simp difs (omega ints)
+
+    half : (s t : ℕ) → Spread n a s → Spread n a t → s ≤ t
+    half s t A B = lin s t (a (A .hi)) (a (A .lo)) (a (B .hi)) (a (B .lo)) (B .above (A .hi) (A .hi-in)) (B .below (A .lo) (A .lo-in)) (A .is) (B .is)
 
 -- ---- the window: the grains between the least and the greatest
 pub record Window (n W : ℕ) (a : ℕ → ℤ) (s : ℕ) : Type 0 where

@@ -1,11 +1,9 @@
 -- The weight of a corner: W less the greatest remainder of x_i - x_j by W. This is how the program weighs it.
 use mathlib.Core.Path.{_≡_, ap}
-use mathlib.Core.Logic.{_⊎_, inl, inr}
 use native.Mathlib.Omega.{arith}
 use lib.IntN.{ℤ, pos, _+ℤ_, _-ℤ_, _*ℤ_}
-use Prim.Native.Nat.{ℕ, zero, suc, _*_, _-_, _≤_, _<_, max}
-use native.Mathlib.Nat.{eq-or-lt-of-le, le-of-suc-le-suc, le-antisymm, mul-pos}
-use native.Mathlib.Decide.{decLe}
+use Prim.Native.Nat.{ℕ, suc, _*_, _-_, _≤_, _<_}
+use native.Mathlib.Nat.{mul-pos}
 use lib.Signed.{_≤ℤ_}
 use Rattle.whole.specs.Floor.{floor, remainder}
 use Rattle.whole.specs.Sum.{sum}
@@ -14,32 +12,8 @@ use Rattle.whole.proofs.Floor.{div-rem, remainder-is}
 use Rattle.lattice.specs.Weight.{residual, spread, weight}
 use Rattle.lattice.specs.Points.{cornerAt}
 use Rattle.simplex.specs.Inner.{peak}
-use Rattle.lattice.proofs.Spread.{Spread, spread-is}
-
--- ---- the weight of a cornerAt: W less the greatest remainder of x_i − x_j by W
-pub spread-one : (n : ℕ) (a : ℕ → ℤ) (s t : ℕ) → Spread n a s → Spread n a t → s ≡ t
-spread-one n a s t A B = le-antisymm (half s t A B) (half t s B A)
-  where
-    lin : (s t : ℕ) (h l h′ l′ : ℤ) → h ≤ℤ h′ → l′ ≤ℤ l → h ≡ l +ℤ pos s → h′ ≡ l′ +ℤ pos t → s ≤ t
-    lin s t = on _ λ a b. on _ λ c d. on _ λ e f. on _ λ g h. simp difs (omega ints)
-
-    half : (s t : ℕ) → Spread n a s → Spread n a t → s ≤ t
-    half s t A B = lin s t (a (A .hi)) (a (A .lo)) (a (B .hi)) (a (B .lo)) (B .above (A .hi) (A .hi-in)) (B .below (A .lo) (A .lo-in)) (A .is) (B .is)
-
--- the greatest of f 0, …, f d is one of them
-peak-is : (d : ℕ) (f : ℕ → ℕ) → (h : ℕ) × (h < suc d) × (peak (suc d) f ≡ f h) × ((i : ℕ) → i < suc d → f i ≤ peak (suc d) f)
-unfolding peak
-peak-is zero f = (0, omega arith, omega arith, λ i l. let e : i ≡ 0 = omega arith in rw e (omega arith))
-peak-is (suc d) f = go (peak-is d f) (decLe (f (suc d)) (peak (suc d) f))
-  where
-    either : (i : ℕ) → ((i : ℕ) → i < suc d → f i ≤ peak (suc d) f) → (i ≡ suc d) ⊎ (i < suc d) → f i ≤ max (peak (suc d) f) (f (suc d))
-    either i u (inl e) = rw e (omega arith)
-    either i u (inr l) = omega (arith, u i l)
-
-    go : ((h : ℕ) × (h < suc d) × (peak (suc d) f ≡ f h) × ((i : ℕ) → i < suc d → f i ≤ peak (suc d) f)) → Dec (f (suc d) ≤ peak (suc d) f)
-        → (h : ℕ) × (h < suc (suc d)) × (max (peak (suc d) f) (f (suc d)) ≡ f h) × ((i : ℕ) → i < suc (suc d) → f i ≤ max (peak (suc d) f) (f (suc d)))
-    go (h, l, e, u) (yes k) = (h, omega arith, omega arith, λ i m. either i u (eq-or-lt-of-le (le-of-suc-le-suc m)))
-    go (h, l, e, u) (no k) = (suc d, omega arith, omega arith, λ i m. either i u (eq-or-lt-of-le (le-of-suc-le-suc m)))
+use Rattle.simplex.proofs.Peak.{peak-is}
+use Rattle.lattice.proofs.Spread.{spread-one, Spread, spread-is}
 
 module _ (d S : ℕ) (p : 0 < S) (x : ℕ → ℤ) (j : ℕ) (q : j < suc d) where
   W : ℕ

@@ -1,7 +1,7 @@
 -- The loop of `enclose`, over plain numbers: what its calls ask and give, from what is asked of a position.
 use mathlib.Core.Path.{_≡_, refl, ap, ap₂, _∙_}
 use mathlib.Core.List.{List}
-use Prim.Native.Nat.{ℕ, zero, suc, _+_, _*_, _-_, _≤_, _<_, max}
+use Prim.Native.Nat.{ℕ, suc, _+_, _*_, _-_, _≤_, _<_}
 use native.Mathlib.Nat.{mul-le-mul, mul-pos}
 use native.Mathlib.Numerals.{add-one}
 use native.Mathlib.Omega.{arith}
@@ -15,17 +15,13 @@ use Rattle.whole.proofs.Lists.{length-tab}
 use Rattle.lattice.specs.Weight.{W}
 use Rattle.lattice.specs.Points.{spanned, lastOf}
 use Rattle.simplex.specs.Slots.{Placed, slotWeights, slotCoords}
-use Rattle.simplex.specs.Inner.{peak, Total, Parts, coordinate, Near, ResidualsOf, CornerIs, Room}
+use Rattle.simplex.specs.Inner.{Total, Parts, coordinate, Near, ResidualsOf, CornerIs, Room}
 use Rattle.simplex.proofs.Splits.{part-of, join-split}
+use Rattle.simplex.proofs.Peak.{peak-cong}
 use Rattle.simplex.proofs.Padding.{at-padded, padded-cong, length-padded}
 use Rattle.simplex.proofs.Slots.{place-in}
 
 -- ---- a corner depends on the first n coordinates only
-peak-cong : (n : ℕ) (f g : ℕ → ℕ) → ((i : ℕ) → i < n → f i ≡ g i) → peak n f ≡ peak n g
-unfolding peak
-peak-cong zero f g h = refl
-peak-cong (suc n) f g h = ap₂ max (peak-cong n f g (λ i l. h i (omega arith))) (h n (omega arith))
-
 corner-cong : (w n : ℕ) (x y : ℕ → ℤ) (j : ℕ) {point : List ℤ} {slot weight : ℕ} → ((i : ℕ) → i < n → x i ≡ y i) → j < n → CornerIs w n x j point slot weight → CornerIs w n y j point slot weight
 corner-cong w n x y j e q C = record {
   point-is = C .point-is ∙ padded-cong n (spanned n (λ i. floor (x i -ℤ x j) w)) (spanned n (λ i. floor (y i -ℤ y j) w)) (λ i l. ap₂ (λ (a b : ℤ). pos n *ℤ a -ℤ b) (each i l) whole);

@@ -1,3 +1,4 @@
+pub mod Peak
 pub mod CornerWeight
 pub mod Splits
 pub mod Padding

@@ -1,4 +1,4 @@
--- Lists of six places filled from the front, one store a turn; and the greatest of several numbers.
+-- Lists of six places filled from the front, one store a turn.
 use mathlib.Core.Path.{_≡_, refl, sym, _∙_}
 use mathlib.Core.Logic.{_≢_}
 use mathlib.Core.Bool.{cond}

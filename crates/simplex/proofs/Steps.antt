@@ -2,7 +2,7 @@
 use mathlib.Core.Path.{_≡_, refl, sym, ap, ap₂, _∙_}
 use mathlib.Core.Logic.{_⊎_, inl, inr}
 use mathlib.Core.List.{List}
-use Prim.Native.Nat.{ℕ, zero, suc, _+_, _-_, _≤_, _<_, max}
+use Prim.Native.Nat.{ℕ, _+_, _-_, _≤_, _<_, max}
 use native.Mathlib.Numerals.{add-one}
 use native.Mathlib.Omega.{arith}
 use lib.IntN.{ℤ, pos, negℤ, _+ℤ_, _-ℤ_, _*ℤ_}
@@ -22,6 +22,7 @@ use Rattle.whole.proofs.Sum.{sum-more, sum-abs}
 use Rattle.lattice.specs.Points.{spanned}
 use Rattle.simplex.specs.Inner.{padded, peak, Total, SplitOf, joined, Part, Parts, coordinate, StepsFrom, Span, CornerIs}
 use Rattle.simplex.proofs.Splits.{minus-low, minus-high}
+use Rattle.simplex.proofs.Peak.{peak-le}
 use Rattle.simplex.proofs.Padding.{padded-none, padded-more, padded-cong, at-padded}
 
 pub steps-none : (w : ℕ) (x : ℕ → ℤ) (j : ℕ) → StepsFrom w 0 x j (replicate 6 (pos 0)) (pos 0) (pos 0)
@@ -69,11 +70,6 @@ pub rest-within : {w : ℕ} {z q r : ℤ} → SplitOf w z q r → Total w → Wi
 rest-within {w} {z} S t = let l = remainder-lt z w (t .some) in rw (S .rest-is) (record { low = omega (arith, zout); high = omega (arith, zout) })
 
 -- ---- the corner that the steps make
-pub peak-le : (n : ℕ) (f : ℕ → ℕ) (m : ℕ) → ((i : ℕ) → i < n → f i ≤ m) → peak n f ≤ m
-unfolding peak
-peak-le zero f m h = omega arith
-peak-le (suc n) f m h = omega (arith, peak-le n f m (λ i l. h i (omega arith)), h n (omega arith))
-
 module _ (w n : ℕ) (floors rests : List ℤ) (j : ℕ) (Q : Parts w n floors rests) (q : j < n) {z : List ℤ} {t : ℤ} {s : ℕ} (F : StepsFrom w n (coordinate w floors rests) j z t (pos s)) where
   abbrev x : ℕ → ℤ
   x = coordinate w floors rests

@@ -8,102 +8,78 @@ use Rattle.simplex.proofs.Placing.{placed}
 use Rattle.cases.proofs.show.Statement.{statement}
 use Rattle.cases.proofs.show.Tie as tie
 
--- src/main.rt:62:9
 returns : tie.Need-returns
 returns c = search needs
 
--- src/main.rt:65:9
 returns-2 : tie.Need-returns-2
 returns-2 c = search needs
 
--- src/main.rt:68:9
 returns-3 : tie.Need-returns-3
 returns-3 c = search needs
 
--- src/main.rt:71:9
 returns-4 : tie.Need-returns-4
 returns-4 c = search needs
 
--- src/main.rt:73:34
 slice-aggregate-write-all : tie.Need-slice-aggregate-write-all
 slice-aggregate-write-all c = search needs
 
--- src/main.rt:73:5
 write-all-requires : tie.Need-write-all-requires
 write-all-requires c κs = search needs
 
--- src/main.rt:74:5
 print-decimal-requires : tie.Need-print-decimal-requires
 print-decimal-requires c κs = search needs
 
--- src/main.rt:75:34
 slice-aggregate-write-all-2 : tie.Need-slice-aggregate-write-all-2
 slice-aggregate-write-all-2 c = search needs
 
--- src/main.rt:75:5
 write-all-requires-2 : tie.Need-write-all-requires-2
 write-all-requires-2 c κs = search needs
 
--- src/main.rt:76:5
 print-numbers-requires : tie.Need-print-numbers-requires
 print-numbers-requires c κs = search needs
 
--- src/main.rt:77:34
 slice-aggregate-write-all-3 : tie.Need-slice-aggregate-write-all-3
 slice-aggregate-write-all-3 c = search needs
 
--- src/main.rt:77:5
 write-all-requires-3 : tie.Need-write-all-requires-3
 write-all-requires-3 c κs = search needs
 
--- src/main.rt:78:9
 judge-requires : tie.Need-judge-requires
 judge-requires c κs = search needs
 
--- src/main.rt:80:38
 slice-aggregate-write-all-4 : tie.Need-slice-aggregate-write-all-4
 slice-aggregate-write-all-4 c = search needs
 
--- src/main.rt:80:9
 write-all-requires-4 : tie.Need-write-all-requires-4
 write-all-requires-4 c κs = search needs
 
--- src/main.rt:81:42
 cast-print-decimal : tie.Need-cast-print-decimal
 cast-print-decimal c = search needs
 
--- src/main.rt:81:9
 print-decimal-requires-2 : tie.Need-print-decimal-requires-2
 print-decimal-requires-2 c κs = search needs
 
--- src/main.rt:82:38
 slice-aggregate-write-all-5 : tie.Need-slice-aggregate-write-all-5
 slice-aggregate-write-all-5 c = search needs
 
--- src/main.rt:82:9
 write-all-requires-5 : tie.Need-write-all-requires-5
 write-all-requires-5 c κs = search needs
 
--- src/main.rt:83:9
 returns-5 : tie.Need-returns-5
 returns-5 c = search needs
 
--- src/main.rt:85:24
 sub-enclose : tie.Need-sub-enclose
 sub-enclose c = search needs
 
--- src/main.rt:85:9
 enclose-requires : tie.Need-enclose-requires
 enclose-requires c κs =
     let s = c .before .before .before .before .before .before .before .before .before .before .before .before .before .before in
     let x = s .args .x .now in
     placed (length x - 1) (s .args .fineness) x (omega arith) (omega arith) (omega arith) (omega arith) (omega arith) (sym (c .before .judge .ensures) ∙ c .if5 .left)
 
--- src/main.rt:86:5
 print-points-requires : tie.Need-print-points-requires
 print-points-requires c κs = search needs
 
--- src/main.rt:59:1
 returns-6 : tie.Need-returns-6
 returns-6 c = search needs
 

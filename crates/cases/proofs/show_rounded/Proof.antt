@@ -24,39 +24,30 @@ between : (num : ℤ) (den : ℕ) → 0 < den → SFits w32 num → Within (negs
 between num den h f = rounded-between num (negsuc 2147483647) (pos 2147483647) den h
     (zle (search zed depth 14) (omega (arith, zin))) (zle (search zed depth 14) (omega (arith, zin)))
 
--- src/main.rt:91:9
 returns : tie.Need-returns
 returns c = search needs
 
--- src/main.rt:93:42
 cast-round-fraction : tie.Need-cast-round-fraction
 cast-round-fraction c = zfits (search zlin depth 14) (omega (arith, zin))
 
--- src/main.rt:93:54
 cast-round-fraction-2 : tie.Need-cast-round-fraction-2
 cast-round-fraction-2 c = zfits (search zlin depth 14) (omega (arith, zin))
 
--- src/main.rt:93:9
 round-fraction-requires : tie.Need-round-fraction-requires
 round-fraction-requires c κs = let d = positive c in record { num-small = zabs (search zlin depth 14) (omega (arith, zin)); den-small = zwithin (search zlin depth 14) (omega (arith, zin)) }
 
--- src/main.rt:94:34
 slice-aggregate-write-all : tie.Need-slice-aggregate-write-all
 slice-aggregate-write-all c = search needs
 
--- src/main.rt:94:5
 write-all-requires : tie.Need-write-all-requires
 write-all-requires c κs = search needs
 
--- src/main.rt:95:5
 print-number-requires : tie.Need-print-number-requires
 print-number-requires c κs = search needs
 
--- src/main.rt:96:5
 print-number-requires-2 : tie.Need-print-number-requires-2
 print-number-requires-2 c κs = search needs
 
--- src/main.rt:97:18
 cast-print-number : tie.Need-cast-print-number
 cast-print-number c =
     let a = c .before .before .before .before in
@@ -70,19 +61,15 @@ cast-print-number c =
     let w : Within (negsuc 2147483647) (pos 2147483647) (a .round-fraction .result) = rw r b in
     zfits (search zlin depth 14) (omega (arith, zin))
 
--- src/main.rt:97:5
 print-number-requires-3 : tie.Need-print-number-requires-3
 print-number-requires-3 c κs = search needs
 
--- src/main.rt:98:34
 slice-aggregate-write-all-2 : tie.Need-slice-aggregate-write-all-2
 slice-aggregate-write-all-2 c = search needs
 
--- src/main.rt:98:5
 write-all-requires-2 : tie.Need-write-all-requires-2
 write-all-requires-2 c κs = search needs
 
--- src/main.rt:89:1
 returns-2 : tie.Need-returns-2
 returns-2 c = search needs
 
