@@ -1,7 +1,8 @@
 // The small numbers of document 01, run through the compiled library. A position is printed with the
 // points of weight above 0 for it and their weights, or with the number by which it is refused; a
 // quotient with what it is rounded to; a division with its remainder. What this prints is held to
-// the file stdout beside src/, which is written from the document.
+// the file stdout beside src/. Its numbers are the document's, but for the one point of
+// (1000000,-1000000): the document says only that it is taken, and as a lattice point it has all of W.
 ghost use mathlib.Core.Path.{_≡_};
 ghost use Prim.Native.Nat.{_<_, _≤_};
 ghost use lib.ListN.{length};

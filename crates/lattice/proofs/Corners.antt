@@ -3,7 +3,7 @@
 use mathlib.Core.Path.{_≡_, refl, sym, ap, ap₂, _∙_}
 use mathlib.Core.Bool.{Bool, true, false}
 use native.Mathlib.Omega.{arith}
-use lib.IntN.{ℤ, pos, negℤ, _+ℤ_, _-ℤ_, _*ℤ_}
+use lib.IntN.{+ℤ-idr, ℤ, pos, negℤ, _+ℤ_, _-ℤ_, _*ℤ_}
 use lib.Signed.{_≤ℤ_}
 use Prim.Native.Nat.{ℕ, suc, _+_, _*_, _-_, _≤_, _<_}
 use native.Mathlib.Nat.{mul-pos}
@@ -14,6 +14,7 @@ use Rattle.whole.specs.Floor.{floor, remainder}
 use Rattle.whole.specs.Sum.{sum}
 use Rattle.whole.proofs.Parts.{P-mono, N-mono, eq-in, le-out}
 use Rattle.whole.proofs.Linear.{on, difs, ints}
+use Rattle.whole.proofs.Ring.{*-comm}
 use Rattle.whole.proofs.Floor.{div-rem, floor-one, floor-le, floor-next}
 use Rattle.whole.proofs.Tests.{all-of, and-i}
 use Rattle.whole.proofs.Sum.{sum-cong, sum-add, sum-mul, sum-neg, sum-const, sum-swap, sum-le, sum-tight, pick, one-hit, hermite}
@@ -56,9 +57,13 @@ close n s t p h k e = lin n s t (floor (negℤ s) n) (floor (negℤ t) n) (pos (
         lin‴ : (s t : ℤ) → negℤ t ≡ negℤ s → t ≡ s
         lin‴ = on _ λ a b. on _ λ c d. simp difs (omega ints)
 
+-- W is above 0
+pub W-some : (d S : ℕ) → 0 < S → 0 < suc d * S
+W-some d S p = mul-pos {m = suc d} (omega arith) p
+
 module _ (d S : ℕ) (p : 0 < S) (x : ℕ → ℤ) where
   wide : 0 < suc d * S
-  wide = mul-pos {m = suc d} (omega arith) p
+  wide = W-some d S p
 
   grain-lattice : (b u : ℕ) → Lattice (suc d) (spanned (suc d) (grain (suc d * S) x b u))
   grain-lattice b u = spanned-lattice (suc d) (grain (suc d * S) x b u) (omega arith)
@@ -73,11 +78,8 @@ module _ (d S : ℕ) (p : 0 < S) (x : ℕ → ℤ) where
   first-grain : (j i : ℕ) → cornerAt d S x j i ≡ spanned (suc d) (grain (suc d * S) x j 0) i
   first-grain j i = ap₂ _-ℤ_ (ap (λ (z : ℤ). pos (suc d) *ℤ z) (own i)) (sum-cong (suc d) (λ i. floor (x i -ℤ x j) (suc d * S)) (grain (suc d * S) x j 0) (λ i l. own i))
     where
-      lin : (v : ℤ) → v ≡ v +ℤ pos 0
-      lin = on _ λ a b. simp difs (omega ints)
-
       own : (i : ℕ) → floor (x i -ℤ x j) (suc d * S) ≡ grain (suc d * S) x j 0 i
-      own i = ap (λ (v : ℤ). floor v (suc d * S)) (lin (x i -ℤ x j))
+      own i = ap (λ (v : ℤ). floor v (suc d * S)) (sym (+ℤ-idr (x i -ℤ x j)))
 
   pub corner-weight : (j : ℕ) → j < suc d → 0 < weight d S x (cornerAt d S x j)
   corner-weight j q = grain-weight d S x (cornerAt d S x j) j q 0 (is-lands (suc d) S x (cornerAt d S x j) j q (corner-lattice j) 0 wide (λ i l. first-grain j i))
@@ -187,11 +189,8 @@ module _ (d S : ℕ) (p : 0 < S) (x : ℕ → ℤ) where
         pick-times true = on _ λ a b. simp difs (omega ints)
         pick-times false = on _ λ a b. simp difs (omega ints)
 
-        comm : (a b : ℤ) → a *ℤ b ≡ b *ℤ a
-        comm = on _ λ a b. on _ λ c d. simp difs (omega ints)
-
         spell : (m : ℕ) → pos (weight d S x (ys m)) *ℤ F m ≡ sum (suc d * S) (λ u. pick (lands (suc d) S x (ys m) 0 u) (F m))
-        spell m = comm (pos (weight d S x (ys m))) (F m) ∙ ap (λ (z : ℤ). F m *ℤ z) (sym (grains d S x (ys m) 0 (omega arith)))
+        spell m = *-comm (pos (weight d S x (ys m))) (F m) ∙ ap (λ (z : ℤ). F m *ℤ z) (sym (grains d S x (ys m) 0 (omega arith)))
             ∙ sym (sum-mul (suc d * S) (F m) (λ u. pick (lands (suc d) S x (ys m) 0 u) (pos 1)))
             ∙ sum-cong (suc d * S) (λ u. F m *ℤ pick (lands (suc d) S x (ys m) 0 u) (pos 1)) (λ u. pick (lands (suc d) S x (ys m) 0 u) (F m)) (λ u h. pick-times (lands (suc d) S x (ys m) 0 u) (F m))
 

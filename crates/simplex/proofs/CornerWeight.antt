@@ -3,7 +3,6 @@ use mathlib.Core.Path.{_≡_, ap}
 use native.Mathlib.Omega.{arith}
 use lib.IntN.{ℤ, pos, _+ℤ_, _-ℤ_, _*ℤ_}
 use Prim.Native.Nat.{ℕ, suc, _*_, _-_, _≤_, _<_}
-use native.Mathlib.Nat.{mul-pos}
 use lib.Signed.{_≤ℤ_}
 use Rattle.whole.specs.Floor.{floor, remainder}
 use Rattle.whole.specs.Sum.{sum}
@@ -13,6 +12,7 @@ use Rattle.lattice.specs.Weight.{residual, spread, weight}
 use Rattle.lattice.specs.Points.{cornerAt}
 use Rattle.simplex.specs.Inner.{peak}
 use Rattle.simplex.proofs.Peak.{peak-is}
+use Rattle.lattice.proofs.Corners.{W-some}
 use Rattle.lattice.proofs.Spread.{spread-one, Spread, spread-is}
 
 module _ (d S : ℕ) (p : 0 < S) (x : ℕ → ℤ) (j : ℕ) (q : j < suc d) where
@@ -21,7 +21,7 @@ module _ (d S : ℕ) (p : 0 < S) (x : ℕ → ℤ) (j : ℕ) (q : j < suc d) whe
 
   wide : 0 < W
   unfolding W
-  wide = mul-pos {m = suc d} (omega arith) p
+  wide = W-some d S p
 
   left : ℕ → ℕ
   left i = remainder (x i -ℤ x j) W

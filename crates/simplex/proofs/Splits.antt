@@ -3,14 +3,17 @@ use mathlib.Core.Path.{_≡_, sym, ap}
 use Prim.Native.Nat.{ℕ, _<_}
 use native.Mathlib.Omega.{arith}
 use lib.IntN.{ℤ, pos, negsuc, _+ℤ_, _-ℤ_, _*ℤ_}
+use lib.Dec.{lit<}
 use lib.Signed.{_≤ℤ_, _<ℤ_}
 use Rattle.whole.specs.Size.{Abs≤}
 use Rattle.whole.specs.Floor.{floor, remainder}
 use Rattle.whole.proofs.Parts.{zin, zout}
 use Rattle.whole.proofs.Linear.{on, difs, ints}
+use Rattle.whole.proofs.Readings.{zlin, W32}
+use Rattle.whole.proofs.Size.{zabs, back32}
 use Rattle.whole.proofs.Floor.{div-rem, remainder-lt, floor-is, remainder-is, floor-p, floor-n}
 use Rattle.lattice.specs.Limits.{farthest}
-use Rattle.simplex.specs.Inner.{SplitOf, joined, Part}
+use Rattle.simplex.specs.Inner.{Total, SplitOf, joined, Part}
 
 pub split-is : (w : ℕ) (z q r : ℤ) → z ≡ pos w *ℤ q +ℤ r → pos 0 ≤ℤ r → r <ℤ pos w → SplitOf w z q r
 split-is w z q (pos n) e l h = let k : n < w = omega (arith, zin) in record { floor-is = sym (floor-is z q w n k e); rest-is = ap pos (sym (remainder-is z q w n k e)) }
@@ -48,3 +51,19 @@ minus-high w q r q′ r′ A B h = split-is w (joined w q r -ℤ joined w q′ r
 
     high : (w : ℕ) (r r′ : ℤ) → r <ℤ pos w → pos 0 ≤ℤ r′ → (r -ℤ r′) <ℤ pos w
     high w = on _ λ a b. on _ λ c d. simp difs (omega ints)
+
+-- a split as the machine has it
+pub floor-back : {w : ℕ} {q r : ℤ} → Part w q r → W32 q ≡ q
+floor-back p = back32 (p .near) (lit< tt)
+
+pub rest-small : {w : ℕ} {q r : ℤ} → Part w q r → Total w → Abs≤ r 384
+rest-small {w} {q} {r} p t = zabs (search zlin depth 14) (omega (arith, zin))
+
+pub rest-back : {w : ℕ} {q r : ℤ} → Part w q r → Total w → W32 r ≡ r
+rest-back p t = back32 (rest-small p t) (lit< tt)
+
+pub part-back : {w : ℕ} {q r : ℤ} → Part w q r → Total w → Part w (W32 q) (W32 r)
+part-back p t = rw (floor-back p, rest-back p t) p
+
+pub split-cong : {w : ℕ} {a a′ b b′ c c′ d d′ q r : ℤ} → a ≡ a′ → b ≡ b′ → c ≡ c′ → d ≡ d′ → SplitOf w (joined w a b -ℤ joined w c d) q r → SplitOf w (joined w a′ b′ -ℤ joined w c′ d′) q r
+split-cong e f g h S = rw (← e, ← f, ← g, ← h) S

@@ -7,16 +7,15 @@ use native.Mathlib.Numerals.{add-one}
 use native.Mathlib.Omega.{arith}
 use lib.IntN.{ℤ, pos, negℤ, _+ℤ_, _-ℤ_, _*ℤ_}
 use lib.Signed.{_≤ℤ_, _<ℤ_}
-use lib.Dec.{lit<}
 use lib.ListN.{set, replicate}
 use Rattle.whole.specs.Size.{P, Abs≤, Within}
 use Rattle.whole.specs.Floor.{floor, remainder}
 use Rattle.whole.specs.Sum.{sum}
 use Rattle.whole.specs.Lists.{at}
 use Rattle.whole.proofs.Parts.{zin, zout}
-use Rattle.whole.proofs.Readings.{zlin, W32}
+use Rattle.whole.proofs.Readings.{zlin}
 use Rattle.whole.proofs.Ring.{le-or-lt}
-use Rattle.whole.proofs.Size.{zabs, back32}
+use Rattle.whole.proofs.Size.{zabs}
 use Rattle.whole.proofs.Floor.{remainder-lt}
 use Rattle.whole.proofs.Sum.{sum-more, sum-abs}
 use Rattle.lattice.specs.Points.{spanned}
@@ -40,22 +39,6 @@ steps-more w i x j {t} {v} {s} h S e f g = record {
   where
     pos-same : {m n : ℕ} → pos m ≡ pos n → m ≡ n
     pos-same e = ap P e
-
--- a split as the machine has it
-pub floor-back : {w : ℕ} {q r : ℤ} → Part w q r → W32 q ≡ q
-floor-back p = back32 (p .near) (lit< tt)
-
-pub rest-small : {w : ℕ} {q r : ℤ} → Part w q r → Total w → Abs≤ r 384
-rest-small {w} {q} {r} p t = zabs (search zlin depth 14) (omega (arith, zin))
-
-pub rest-back : {w : ℕ} {q r : ℤ} → Part w q r → Total w → W32 r ≡ r
-rest-back p t = back32 (rest-small p t) (lit< tt)
-
-pub part-back : {w : ℕ} {q r : ℤ} → Part w q r → Total w → Part w (W32 q) (W32 r)
-part-back p t = rw (floor-back p, rest-back p t) p
-
-pub split-cong : {w : ℕ} {a a′ b b′ c c′ d d′ q r : ℤ} → a ≡ a′ → b ≡ b′ → c ≡ c′ → d ≡ d′ → SplitOf w (joined w a b -ℤ joined w c d) q r → SplitOf w (joined w a′ b′ -ℤ joined w c′ d′) q r
-split-cong e f g h S = rw (← e, ← f, ← g, ← h) S
 
 -- the floor of a difference of two coordinates is small
 pub floor-near : (w : ℕ) (q r q′ r′ : ℤ) → Part w q r → Part w q′ r′ → Abs≤ (floor (joined w q r -ℤ joined w q′ r′) w) 2000001

@@ -14,6 +14,12 @@ use Rattle.whole.proofs.Linear.{on, difs, ints}
 use Rattle.whole.proofs.Readings.{zed, zlt, zeq, ole, olt, oeq, sizes}
 use Rattle.whole.proofs.Ring.{le-or-lt, nonneg-N, negative-P}
 
+-- document 01's own numbers, computed
+pub remainder-cases : RemainderCases
+unfolding remainder
+remainder-cases = record { minus-four = refl; minus-one = refl; two = refl }
+
+-- ════ the pair
 pub remainder-lt : (z : ℤ) (m : ℕ) → 0 < m → remainder z m < m
 unfolding remainder
 remainder-lt (pos a) m h = mod-lt a h
@@ -130,10 +136,6 @@ divided z m h = record { is = div-rem z m h; less = remainder-lt z m h }
 
 pub divided-once : DividedOnce
 divided-once z q m r D = div-unique z q m r (D .less) (D .is)
-
-pub remainder-cases : RemainderCases
-unfolding remainder
-remainder-cases = record { minus-four = refl; minus-one = refl; two = refl }
 
 pub floor-is : (z q : ℤ) (m r : ℕ) → r < m → z ≡ pos m *ℤ q +ℤ pos r → floor z m ≡ q
 floor-is z q m r h e = sym (div-unique z q m r h e .0)

@@ -1,4 +1,4 @@
--- Lists by place: lists made by `tab` and what a store makes of one, a stretch put into a list, a copy from the front. Assumes nothing.
+-- Lists by place: lists made by `tab` and what a store makes of one, a stretch put or copied into a list, lists one after the other. Assumes nothing.
 use mathlib.Core.Path.{_≡_, refl, ap, ap₂, sym, _∙_}
 use mathlib.Core.Logic.{_≢_}
 use mathlib.Core.List.{List, [], _∷_, _++_, map, map-append, append-nil, append-assoc}
@@ -78,18 +78,9 @@ module _ {A : Type 0} where
   pub splice-all : {t : List A} (l : List A) (a : ℕ) (s : List A) (i : ℕ) → length s ≤ i → t ≡ splice l a (take i s) → t ≡ splice l a s
   splice-all l a s i p e = e ∙ ap (splice l a) (take-all i s p)
 
-  -- ---- a copy from the front, one store a turn
-  copy-suc : (s d : List A) (i : ℕ) (z : A) → i < length s → i < length d → set (take i s ++ drop i d) i (getD s i z) ≡ take (suc i) s ++ drop (suc i) d
-  copy-suc [] d i z p q = absurd (not-suc-le-zero p)
-  copy-suc (x ∷ s) [] i z p q = absurd (not-suc-le-zero q)
-  copy-suc (x ∷ s) (y ∷ d) zero z p q = refl
-  copy-suc (x ∷ s) (y ∷ d) (suc i) z p q = ap (λ (t : List A). x ∷ t) (copy-suc s d i z (le-of-suc-le-suc p) (le-of-suc-le-suc q))
-
-  pub copy-more : {t : List A} (s d : List A) (i : ℕ) (z : A) → i < length s → i < length d → t ≡ take i s ++ drop i d → set t i (getD s i z) ≡ take (i + 1) s ++ drop (i + 1) d
-  copy-more s d i z p q e = rw (e, add-one) (copy-suc s d i z p q)
-
-  pub copy-all : {t : List A} (s d : List A) (i : ℕ) → length s ≤ i → length d ≤ i → t ≡ take i s ++ drop i d → t ≡ s
-  copy-all s d i p q e = e ∙ rw (take-all i s p, drop-of-length-le d q) (append-nil s)
+  -- a stretch as long as the list is the list
+  pub splice-whole : (l v : List A) → length v ≡ length l → splice l 0 v ≡ v
+  splice-whole l v e = ap (λ (t : List A). v ++ t) (drop-of-length-le l {i = 0 + length v} (omega arith)) ∙ append-nil v
 
   -- ---- a part that was lent, and has come back
   rest : (a n : ℕ) (l : List A) → drop (a + n - a) (drop a l) ≡ drop (a + n) l

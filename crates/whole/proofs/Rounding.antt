@@ -12,6 +12,12 @@ use Rattle.whole.proofs.Parts.{lt-in, zin}
 use Rattle.whole.proofs.Readings.{zed, zle, zlt, zeq, ole, olt}
 use Rattle.whole.proofs.Ring.{le-or-lt, le-antisymm}
 
+-- document 01's own numbers, computed
+pub rounding-cases : RoundingCases
+unfolding rounded
+rounding-cases = record { three-halves = refl; minus-three-halves = refl; minus-half = refl; third = refl; minus-two-thirds = refl }
+
+-- ════ the one number that rounds so
 pub rounded-rounds : (num : ℤ) (d : ℕ) → 0 < d → Rounds num d (rounded num d)
 unfolding rounded
 rounded-rounds (pos a) d h = let e = div-add-mod' (2 * a + d) (2 * d) in let l = mod-lt (2 * a + d) {m = 2 * d} (omega arith) in record {
@@ -84,7 +90,3 @@ rounded-once num r den h k = rounds-unique h k
 
 pub rounded-between : RoundedBetween
 rounded-between num lo hi den h a b = let k = rounded-rounds num den h in record { low = rounds-lo lo h k a; high = rounds-hi hi h k b }
-
-pub rounding-cases : RoundingCases
-unfolding rounded
-rounding-cases = record { three-halves = refl; minus-three-halves = refl; minus-half = refl; third = refl; minus-two-thirds = refl }

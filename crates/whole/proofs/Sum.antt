@@ -7,7 +7,7 @@ use Prim.Native.Nat.{ℕ, zero, suc, _+_, _*_, _<_}
 use native.Mathlib.Nat.{not-suc-le-zero, le-refl, eq-or-lt-of-le, le-of-suc-le-suc}
 use native.Mathlib.Numerals.{add-one}
 use native.Mathlib.Omega.{arith}
-use lib.IntN.{+ℤ-idl, +ℤ-idr, +ℤ-assoc, *ℤ-zero, zero-*ℤ, ℤ, pos, negℤ, _+ℤ_, _*ℤ_}
+use lib.IntN.{negℤ-+ℤ, +ℤ-idl, +ℤ-idr, +ℤ-assoc, *ℤ-zero, zero-*ℤ, ℤ, pos, negℤ, _+ℤ_, _*ℤ_}
 use lib.Signed.{_≤ℤ_}
 use lib.Dec.{T}
 use lib.ListN.{length, getD}
@@ -17,7 +17,7 @@ use Rattle.whole.specs.Sum.{sum, over}
 use Rattle.whole.proofs.Parts.{add-is, eq-out, le-out}
 use Rattle.whole.proofs.Linear.{on, difs, ints}
 use Rattle.whole.proofs.Readings.{zlin}
-use Rattle.whole.proofs.Ring.{*-dist-l}
+use Rattle.whole.proofs.Ring.{*-dist-l, add-mono}
 use Rattle.whole.proofs.Size.{zabs}
 use Rattle.whole.proofs.Floor.{floor-is, floor-next}
 use Rattle.whole.proofs.Tests.{T-true, T-false}
@@ -51,10 +51,7 @@ sum-mul (suc n) c f = rw (sum-mul n c f) (sym (*-dist-l c (sum n f) (f n)))
 pub sum-neg : (n : ℕ) (f : ℕ → ℤ) → sum n (λ i. negℤ (f i)) ≡ negℤ (sum n f)
 unfolding sum
 sum-neg zero f = refl
-sum-neg (suc n) f = rw (sum-neg n f) (lin (sum n f) (f n))
-  where
-    lin : (a b : ℤ) → negℤ a +ℤ negℤ b ≡ negℤ (a +ℤ b)
-    lin = on _ λ a b. on _ λ c d. simp difs (omega ints)
+sum-neg (suc n) f = rw (sum-neg n f) (sym (negℤ-+ℤ (sum n f) (f n)))
 
 pub sum-const : (n : ℕ) (c : ℤ) → sum n (λ i. c) ≡ pos n *ℤ c
 unfolding sum
@@ -72,10 +69,7 @@ sum-swap (suc n) k f = rw (sum-swap n k f) (sym (sum-add k (λ j. sum n (λ i. f
 pub sum-le : (n : ℕ) (f g : ℕ → ℤ) → ((i : ℕ) → i < n → f i ≤ℤ g i) → sum n f ≤ℤ sum n g
 unfolding sum
 sum-le zero f g h = le-out (pos 0) (pos 0) (omega arith)
-sum-le (suc n) f g h = lin (sum n f) (sum n g) (f n) (g n) (sum-le n f g (λ i l. h i (omega arith))) (h n (le-refl (suc n)))
-  where
-    lin : (a b c d : ℤ) → a ≤ℤ b → c ≤ℤ d → (a +ℤ c) ≤ℤ (b +ℤ d)
-    lin = on _ λ a b. on _ λ c d. on _ λ e f. on _ λ g h. simp difs (omega ints)
+sum-le (suc n) f g h = add-mono (sum-le n f g (λ i l. h i (omega arith))) (h n (le-refl (suc n)))
 
 -- n numbers of size at most B
 pub sum-abs : (n : ℕ) (f : ℕ → ℤ) (B : ℕ) → ((i : ℕ) → i < n → Abs≤ (f i) B) → Abs≤ (sum n f) (n * B)
@@ -164,7 +158,7 @@ her-zero m = sum-cong m (λ u. floor (pos 0 +ℤ pos u) m) (λ u. pos 0) (λ u l
     lin : (m u : ℕ) → pos 0 +ℤ pos u ≡ pos m *ℤ pos 0 +ℤ pos u
     lin m u = simp difs (omega ints)
 
-pub z-pn : (v : ℤ) → v +ℤ pos (N v) ≡ pos 0 +ℤ pos (P v)
+z-pn : (v : ℤ) → v +ℤ pos (N v) ≡ pos 0 +ℤ pos (P v)
 z-pn v = eq-out (v +ℤ pos (N v)) (pos 0 +ℤ pos (P v)) (omega (arith, add-is v (pos (N v))))
 
 pub hermite : (m : ℕ) (v : ℤ) → 0 < m → sum m (λ u. floor (v +ℤ pos u) m) ≡ v

@@ -1,6 +1,6 @@
 -- The two splits as the machine has them are the lists' own; `minus` does the rest.
 use borrow.Author.Needs.{needs}
-use Rattle.simplex.proofs.Steps.{floor-back, rest-back, part-back, split-cong}
+use Rattle.simplex.proofs.Splits.{floor-back, rest-back, part-back, split-cong}
 use Rattle.simplex.proofs.residual.difference.Statement.{statement}
 use Rattle.simplex.proofs.residual.difference.Tie as tie
 

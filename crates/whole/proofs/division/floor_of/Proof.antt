@@ -1,13 +1,13 @@
 -- The machine's quotient, less 1 where its remainder is negative, is the floor.
 use borrow.Author.Needs.{needs}
-use mathlib.Core.Path.{_∙_}
+use mathlib.Core.Path.{_≡_, _∙_}
 use native.Mathlib.Omega.{arith}
-use lib.IntN.{pos}
+use lib.IntN.{ℤ, pos}
 use lib.Signed.{remZ, _≤ℤ_}
 use mir.Val.{toZ}
 use mir.Syntax.{w64}
 use Rattle.whole.proofs.Parts.{zin, zout}
-use Rattle.whole.proofs.Readings.{zlow, zeq, zfits, t<, t≥, W64, Sizes, sizes}
+use Rattle.whole.proofs.Readings.{zlow, zeq, zfits, W64, Sizes, sizes}
 use Rattle.whole.proofs.Floor.{FloorNeg, floor-neg, floor-pos}
 use Rattle.whole.proofs.division.floor_of.Statement.{statement}
 use Rattle.whole.proofs.division.floor_of.Tie as tie
@@ -27,9 +27,15 @@ div-q c = let s = size c in (c .pre, zfits (search zlow depth 14) (omega (arith,
 rem-if1 : tie.Need-rem-if1
 rem-if1 c = div-q c
 
+-- the remainder as the machine has it
+abbrev left : tie.Start → ℤ
+left c = W64 (remZ (W64 (c .args .z)) (toZ w64 (c .args .m)))
+
+own : (c : tie.Start) → left c ≡ remZ (c .args .z) (pos (c .args .m))
+own c = let s = size c in zeq (search zlow depth 14) (omega (arith, zin))
+
 below : (c : tie.Then1) → FloorNeg (c .before .args .z) (pos (c .before .args .m))
-below c = let z = c .before .args .z in let m = c .before .args .m in let s = size (c .before) in
-    floor-neg z (pos m) (one (c .before)) (t< {a = W64 (remZ (W64 z) (toZ w64 m))} (c .if1 .taken) (search zlow depth 14) (omega (arith, zin)))
+below c = let e = own (c .before) in floor-neg (c .before .args .z) (pos (c .before .args .m)) (one (c .before)) (omega (arith, zin, zout))
 
 sub-result : tie.Need-sub-result
 sub-result c = let b = below c in let s = size (c .before) in zfits (search zlow depth 14) (omega (arith, zin))
@@ -38,9 +44,8 @@ returns : tie.Need-returns
 returns c = let b = below c in let s = size (c .before) in zeq (search zlow depth 14) (omega (arith, zin)) ∙ b .quot-is
 
 returns-2 : tie.Need-returns-2
-returns-2 c = let z = c .before .args .z in let m = c .before .args .m in let s = size (c .before) in
-    zeq (search zlow depth 14) (omega (arith, zin))
-    ∙ floor-pos z (pos m) (one (c .before)) (t≥ {a = W64 (remZ (W64 z) (toZ w64 m))} (c .if1 .left) (search zlow depth 14) (omega (arith, zin))) .0
+returns-2 c = let s = size (c .before) in let e = own (c .before) in
+    zeq (search zlow depth 14) (omega (arith, zin)) ∙ floor-pos (c .before .args .z) (pos (c .before .args .m)) (one (c .before)) (omega (arith, zin, zout)) .0
 
 pub floor-of-spec : {M : Type 1} → statement M
 floor-of-spec = tie.close (tie.spec cast-n div-q rem-if1 sub-result returns returns-2)

@@ -1,13 +1,13 @@
 -- The machine's remainder, plus the divisor where it is negative, is the remainder that is never negative.
 use borrow.Author.Needs.{needs}
-use mathlib.Core.Path.{ap, _∙_}
+use mathlib.Core.Path.{_≡_, ap, _∙_}
 use native.Mathlib.Omega.{arith}
 use lib.IntN.{ℤ, pos, natAbs, _+ℤ_}
 use lib.Signed.{remZ, _<ℤ_, _≤ℤ_}
 use mir.Val.{toZ}
 use mir.Syntax.{w32}
 use Rattle.whole.proofs.Parts.{zin, zout}
-use Rattle.whole.proofs.Readings.{zlow, zeq, zfits, zcast, t<, t≥, W32, Sizes, sizes}
+use Rattle.whole.proofs.Readings.{zlow, zeq, zfits, zcast, W32, Sizes, sizes}
 use Rattle.whole.proofs.Floor.{floor-neg, floor-pos}
 use Rattle.whole.proofs.division.remainder_of.Statement.{statement}
 use Rattle.whole.proofs.division.remainder_of.Tie as tie
@@ -28,13 +28,14 @@ cast-n c = search needs
 rem-r : tie.Need-rem-r
 rem-r c = let s = size c in (c .pre .positive, zfits (search zlow depth 14) (omega (arith, zin)))
 
+own : (c : tie.Start) → left c ≡ remZ (c .args .x) (pos (c .args .m))
+own c = let s = size c in zeq (search zlow depth 14) (omega (arith, zin))
+
 below : (c : tie.Then1) → remZ (c .before .args .x) (pos (c .before .args .m)) <ℤ pos 0
-below c = let s = size (c .before) in
-    t< {a = left (c .before)} (c .if1 .taken) (search zlow depth 14) (omega (arith, zin))
+below c = let e = own (c .before) in omega (arith, zin, zout)
 
 above : (c : tie.Else1) → pos 0 ≤ℤ remZ (c .before .args .x) (pos (c .before .args .m))
-above c = let s = size (c .before) in
-    t≥ {a = left (c .before)} (c .if1 .left) (search zlow depth 14) (omega (arith, zin))
+above c = let e = own (c .before) in omega (arith, zin, zout)
 
 add-result : tie.Need-add-result
 add-result c = let b = below c in let s = size (c .before) in zfits (search zlow depth 14) (omega (arith, zin))

@@ -1,8 +1,8 @@
 -- By cases on the sign: -1 - x is the size less 1 where x is below 0.
 use borrow.Author.Needs.{needs}
 use native.Mathlib.Omega.{arith}
-use mathlib.Core.Path.{_≡_, ap, _∙_}
-use Prim.Native.Nat.{_+_, _-_, _<_}
+use mathlib.Core.Path.{_≡_}
+use Prim.Native.Nat.{_-_, _<_}
 use lib.IntN.{ℤ, pos, negsuc, natAbs, _-ℤ_}
 use lib.Signed.{_<ℤ_, _≤ℤ_}
 use Rattle.whole.proofs.Parts.{zin, natAbs-is}
@@ -43,7 +43,7 @@ add-result : tie.Need-add-result
 add-result c = let x = c .before .args .x in record { fits = rw (small c) (omega (arith, zin, natAbs-is x)) }
 
 returns-2 : tie.Need-returns-2
-returns-2 c = ap (λ (z : ℤ). natAbs z + 1) (small c) ∙ omega (arith, some c)
+returns-2 c = rw (small c) (omega (arith, some c))
 
 pub size-of-spec : {M : Type 1} → statement M
 size-of-spec = tie.close (tie.spec cast-result returns sub-y cast-result-2 add-result returns-2)
