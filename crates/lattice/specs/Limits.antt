@@ -20,3 +20,15 @@ farthest = 1000000
 -- those of a stored point are "within ±1,000,005"
 abbrev pub farthest-point : ℕ
 farthest-point = 1000005
+
+-- "Capacity C: 1 to 8,192 points."
+abbrev pub most-C : ℕ
+most-C = 8192
+
+-- "A value is from -1,000,000 to 1,000,000"
+abbrev pub most-value : ℕ
+most-value = 1000000
+
+-- "At most 4,096 readings in a table."
+abbrev pub most-readings : ℕ
+most-readings = 4096

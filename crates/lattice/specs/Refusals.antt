@@ -9,6 +9,18 @@ first [] = 0
 first ((true, k) ∷ rest) = first rest
 first ((false, k) ∷ rest) = k
 
+-- "1: d, S or C out of range"
+abbrev pub settings-out-of-range : ℕ
+settings-out-of-range = 1
+
+-- "2: a lent slice has another length than the settings give, or a list isn't whole items"
+abbrev pub other-length : ℕ
+other-length = 2
+
+-- "3: the table is not sound"
+abbrev pub not-sound : ℕ
+not-sound = 3
+
 -- "4: a coordinate is beyond ±1,000,000"
 abbrev pub coordinate-beyond : ℕ
 coordinate-beyond = 4
@@ -16,3 +28,19 @@ coordinate-beyond = 4
 -- "5: the coordinates don't sum to 0"
 abbrev pub sum-not-zero : ℕ
 sum-not-zero = 5
+
+-- "6: a value is beyond ±1,000,000"
+abbrev pub value-beyond : ℕ
+value-beyond = 6
+
+-- "7: more than 4,096 readings would be held"
+abbrev pub too-many-readings : ℕ
+too-many-readings = 7
+
+-- "8: more than C points would be stored"
+abbrev pub too-many-points : ℕ
+too-many-points = 8
+
+-- "9: merge: d or S differ"
+abbrev pub settings-differ : ℕ
+settings-differ = 9

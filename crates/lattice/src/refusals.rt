@@ -1,7 +1,28 @@
 // Document 01's refusal numbers, each once.
 
+// d, S or C out of range.
+pub const SETTINGS_OUT_OF_RANGE: u8 = 1;
+
+// A lent slice has another length than the settings give, or a list isn't whole items.
+pub const OTHER_LENGTH: u8 = 2;
+
+// The table is not sound.
+pub const NOT_SOUND: u8 = 3;
+
 // A coordinate is beyond 1,000,000 either way.
 pub const COORDINATE_BEYOND: u8 = 4;
 
 // The coordinates don't sum to 0.
 pub const SUM_NOT_ZERO: u8 = 5;
+
+// A value is beyond 1,000,000 either way.
+pub const VALUE_BEYOND: u8 = 6;
+
+// More than 4,096 readings would be held.
+pub const TOO_MANY_READINGS: u8 = 7;
+
+// More than C points would be stored.
+pub const TOO_MANY_POINTS: u8 = 8;
+
+// Merge: d or S differ.
+pub const SETTINGS_DIFFER: u8 = 9;

@@ -1,0 +1,4 @@
+pub mod Refusing
+pub mod Slots
+pub mod Spreading
+pub mod Going

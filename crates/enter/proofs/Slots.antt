@@ -1,0 +1,122 @@
+-- The rows of a slot, and of the slots one after the other.
+use mathlib.Core.Path.{_≡_, refl, sym, ap, ap₂, subst, _∙_}
+use mathlib.Core.Bool.{Bool, true, false, cond}
+use mathlib.Core.List.{List, [], _∷_, _++_, map, append-nil, append-assoc}
+use Prim.Native.Nat.{ℕ, zero, suc, _+_, _*_, _-_, _≤_, _<_}
+use native.Mathlib.Numerals.{add-one}
+use native.Mathlib.Omega.{arith}
+use lib.Dec.{eqb}
+use lib.IntN.{ℤ, pos, _*ℤ_}
+use lib.ListN.{length, getD, take, drop, length-take, length-drop}
+use lib.Seq.{getD-take, getD-drop, length-take-le}
+use borrow.Author.Tests.{eq-eqb, ne-eqb}
+use Rattle.whole.specs.Lists.{at, tab, collect}
+use Rattle.whole.proofs.Lists.{tab-is, length-tab, getD-tab}
+use Rattle.simplex.specs.Slots.{slot}
+use Rattle.table.specs.Table.{Settings, Table, Row, found}
+use Rattle.table.specs.Pour.{pour, add, news}
+use Rattle.table.specs.Inner.{Addable, InTurn}
+use Rattle.enter.specs.Slots.{shareOf, slotRows, rowsTo, Counts}
+use Rattle.table.proofs.Lists.{take-tab, collect-parts}
+use Rattle.table.proofs.Pouring.{news-append}
+use Rattle.table.proofs.Turns.{in-turn-part, holds-of}
+use Rattle.table.specs.declared.Head.{Head}
+use Rattle.table.specs.Heads.{settings, stored, Holds}
+
+-- a part of a list, number by number
+part-tab : (l : List ℤ) (a n : ℕ) → a + n ≤ length l → take (a + n - a) (drop a l) ≡ tab n (λ i. at l (a + i))
+part-tab l a n h =
+    let q : a + n - a ≡ n = omega arith in
+    ap (λ (k : ℕ). take k (drop a l)) q ∙ tab-is n (λ i. at l (a + i)) (take n (drop a l)) (pos 0)
+    (length-take-le n (drop a l) (omega (arith, length-drop a l)))
+    (λ i h. getD-take n (drop a l) i (pos 0) h ∙ getD-drop a l i (pos 0))
+
+-- the numbers of slot k that are kept
+pub kept-part : (d : ℕ) (cs : List ℤ) (k : ℕ) → d ≤ 5 → k < suc d → length cs ≡ 36 → take (6 * k + d - 6 * k) (drop (6 * k) cs) ≡ take d (tab (suc d) (λ i. at cs (6 * k + i)))
+kept-part d cs k h l e = part-tab cs (6 * k) d (omega arith) ∙ sym (take-tab d (λ i. at cs (6 * k + i)))
+
+-- a slot of weight 0 has no row
+pub slot-none : (d : ℕ) (ws : List ℕ) (cs : List ℤ) (v : ℤ) (k : ℕ) → getD ws k 0 ≡ 0 → slotRows d ws cs v k ≡ []
+unfolding slotRows slot
+slot-none d ws cs v k e = rw (eq-eqb (getD ws k 0) 0 e)
+
+-- another has one
+pub slot-one : (d : ℕ) (ws : List ℕ) (cs : List ℤ) (v : ℤ) (k : ℕ) (key : List ℤ) (m s : ℤ) → d ≤ 5 → k < suc d → length cs ≡ 36 → (getD ws k 0 ≡ 0 → ⊥)
+    → key ≡ take (6 * k + d - 6 * k) (drop (6 * k) cs) → m ≡ pos (getD ws k 0) → s ≡ pos (getD ws k 0) *ℤ v
+    → slotRows d ws cs v k ≡ record { key = key; mass = m; value = s } ∷ []
+unfolding slotRows slot
+slot-one d ws cs v k key m s h l e w p q r =
+    rw (ne-eqb (getD ws k 0) 0 w) (λ i. record { key = sym (p ∙ kept-part d cs k h l e) i; mass = sym q i; value = sym r i } ∷ [])
+
+-- ---- pouring one, and one after the other
+pub pour-none : (c : Settings) (t : Table) (rs : List Row) → rs ≡ [] → pour c t rs ≡ t
+unfolding pour
+pour-none c t rs e = ap (pour c t) e
+
+pub pour-one : (c : Settings) (t : Table) (rs : List Row) (r : Row) → rs ≡ r ∷ [] → pour c t rs ≡ add c t r
+unfolding pour
+pour-one c t rs r e = ap (pour c t) e
+
+pub one-addable : (c : Settings) (t : Table) (rs : List Row) (r : Row) → InTurn c t rs → rs ≡ r ∷ [] → Addable c t r
+unfolding pour
+one-addable c t rs r Q e = Q .each [] [] r e
+
+pub news-none : (c : Settings) (t : Table) (rs : List Row) → rs ≡ [] → 0 ≡ news c t rs
+unfolding news
+news-none c t rs e = sym (ap (news c t) e)
+
+pub news-one : {x : ℕ} (c : Settings) (t : Table) (rs : List Row) (r : Row) → x ≡ cond (eqb (found c t (r .key)) 0) 1 0 → rs ≡ r ∷ [] → x ≡ news c t rs
+unfolding news
+news-one c t rs r q e = q ∙ omega arith ∙ sym (ap (news c t) e)
+
+-- ---- the slots one after the other
+pub rows-none : (d : ℕ) (ws : List ℕ) (cs : List ℤ) (v : ℤ) → rowsTo d ws cs v 0 ≡ []
+unfolding rowsTo collect
+rows-none d ws cs v = refl
+
+pub rows-more : (d : ℕ) (ws : List ℕ) (cs : List ℤ) (v : ℤ) (k : ℕ) → rowsTo d ws cs v (k + 1) ≡ rowsTo d ws cs v k ++ slotRows d ws cs v k
+unfolding rowsTo collect
+rows-more d ws cs v k = rw add-one
+
+pub slot-pourable : (c : Settings) (t u : Table) (d : ℕ) (ws : List ℕ) (cs : List ℤ) (v : ℤ) (n k : ℕ) → k < n
+    → InTurn c t (rowsTo d ws cs v n) → u ≡ pour c t (rowsTo d ws cs v k) → InTurn c u (slotRows d ws cs v k)
+unfolding rowsTo
+slot-pourable c t u d ws cs v n k l Q e = let s = collect-parts n (slotRows d ws cs v) k l in
+    in-turn-part c t u (collect n (slotRows d ws cs v)) (collect k (slotRows d ws cs v)) (slotRows d ws cs v k) (s .0) Q (s .1) e
+
+-- a slot has at most one point
+pub slot-few : (c : Settings) (t : Table) (d : ℕ) (ws : List ℕ) (cs : List ℤ) (v : ℤ) (k : ℕ) → news c t (slotRows d ws cs v k) ≤ 1
+unfolding slotRows slot news
+slot-few c t d ws cs v k = go (eqb (getD ws k 0) 0)
+  where
+    p : List ℤ × ℕ
+    p = (tab (suc d) (λ i. at cs (6 * k + i)), getD ws k 0)
+
+    one : (b : Bool) → cond b 1 0 + 0 ≤ 1
+    one true = omega arith
+    one false = omega arith
+
+    go : (b : Bool) → news c t (map (shareOf d v) (cond b [] (p ∷ []))) ≤ 1
+    go true = omega arith
+    go false = one (eqb (found c t (shareOf d v p .key)) 0)
+
+-- one slot more is counted
+pub count-more : (c : Settings) (t : Table) (d : ℕ) (ws : List ℕ) (cs : List ℤ) (k a b : ℕ) → Counts c t (λ v. rowsTo d ws cs v k) a → Counts c t (λ v. slotRows d ws cs v k) b
+    → Counts c t (λ v. rowsTo d ws cs v (k + 1)) (a + b)
+count-more c t d ws cs k a b p q v = omega (arith, p v, q v, ap (news c t) (rows-more d ws cs v k) ∙ news-append c t (rowsTo d ws cs v k) (slotRows d ws cs v k))
+
+pub count-few : (c : Settings) (t : Table) (d : ℕ) (ws : List ℕ) (cs : List ℤ) (k b : ℕ) → Counts c t (λ v. slotRows d ws cs v k) b → b ≤ 1
+count-few c t d ws cs k b q = omega (arith, q (pos 0), slot-few c t d ws cs (pos 0) k)
+
+pub kept-size : (d : ℕ) (cs : List ℤ) (k : ℕ) → d ≤ 5 → k < suc d → length cs ≡ 36 → length (take (6 * k + d - 6 * k) (drop (6 * k) cs)) ≡ d
+kept-size d cs k h l e = ap length (part-tab cs (6 * k) d (omega arith)) ∙ length-tab d (λ i. at cs (6 * k + i))
+
+-- the number of slots is named otherwise
+pub counts-at : (c : Settings) (t : Table) (d : ℕ) (ws : List ℕ) (cs : List ℤ) (k n a : ℕ) → k ≡ n → Counts c t (λ v. rowsTo d ws cs v k) a → Counts c t (λ v. rowsTo d ws cs v n) a
+counts-at c t d ws cs k n a e p v = p v ∙ ap (λ (j : ℕ). news c t (rowsTo d ws cs v j)) e
+
+-- all slots are poured
+pub ended : (v v′ : ℤ) → v′ ≡ v → (h : Head) (t : Table) (ws : List ℕ) (cs : List ℤ) (k n : ℕ) → k ≡ n → (points : ℕ) (keys sums : List ℤ) (index : List ℕ)
+    → stored h points keys sums index ≡ pour (settings h) t (rowsTo (h .d) ws cs v′ k) → Holds (pour (settings h) t (rowsTo (h .d) ws cs v n)) points keys sums index
+ended v v′ p h t ws cs k n q points keys sums index e =
+    holds-of h (pour (settings h) t (rowsTo (h .d) ws cs v n)) points keys sums index (e ∙ ap₂ (λ (v : ℤ) (k : ℕ). pour (settings h) t (rowsTo (h .d) ws cs v k)) p q)

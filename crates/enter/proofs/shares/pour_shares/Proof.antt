@@ -1,0 +1,104 @@
+use borrow.Author.Needs.{needs}
+use native.Mathlib.Omega.{arith}
+use mathlib.Core.Path.{_≡_, refl, sym, ap, subst, _∙_}
+use mathlib.Core.List.{[]}
+use Prim.Native.Nat.{ℕ, suc, _+_, _-_, _≤_}
+use lib.ListN.{length}
+use mir.Syntax.{w32}
+use lib.IntN.{ℤ}
+use mir.Val.{toZ, ofZ}
+use mir.Facts.{toZ-ofZ}
+use Rattle.table.specs.Heads.{settings, stored, table}
+use Rattle.table.specs.Pour.{pour}
+use Rattle.enter.specs.Slots.{rowsTo, Pouring}
+use Rattle.table.proofs.Turns.{pour-turn, holds-of}
+use Rattle.enter.proofs.Slots.{pour-none, rows-none, rows-more, slot-pourable, ended}
+use Rattle.enter.proofs.shares.pour_shares.Statement.{statement}
+use Rattle.enter.proofs.shares.pour_shares.Tie as tie
+use Rattle.enter.proofs.shares.pour_shares.Reads as reads
+use Rattle.enter.proofs.shares.pour_shares.Lts as lts
+use Rattle.enter.proofs.shares.pour_slot.Reads as pour-slot-reads
+
+abbrev Inv-loop : tie.InvT-loop
+Inv-loop head keys₀ sums₀ index₀ weights coords value n points₀ slot₀ keys sums index points slot =
+    (slot ≤ n) × (n ≡ head .d + 1) × (length keys ≡ length keys₀) × (length sums ≡ length sums₀) × (length index ≡ length index₀)
+    × (stored head points keys sums index ≡ pour (settings head) (table head keys₀ sums₀ index₀) (rowsTo (head .d) weights coords (toZ w32 value) slot))
+
+abbrev μ-loop : tie.MeasureT-loop
+μ-loop head keys₀ sums₀ index₀ weights coords value n points₀ slot₀ keys sums index points slot = n - slot
+
+-- what is asked, at the value as the machine has it
+ready : (s : tie.Start Inv-loop μ-loop) → let v = toZ w32 (ofZ w32 (s .args .value)) in
+    Pouring (settings (s .args .head)) (table (s .args .head) (s .args .keys .now) (s .args .sums .now) (s .args .index .now)) (s .args .weights .now) (s .args .coords .now) v
+    (rowsTo (s .args .head .d) (s .args .weights .now) (s .args .coords .now) v (suc (s .args .head .d)))
+ready s =
+    let a = s .args in
+    subst
+    (λ (v : ℤ). Pouring (settings (a .head)) (table (a .head) (a .keys .now) (a .sums .now) (a .index .now)) (a .weights .now) (a .coords .now) v (rowsTo (a .head .d) (a .weights .now) (a .coords .now) v (suc (a .head .d))))
+    (sym (toZ-ofZ (s .fits .value))) (s .pre)
+
+-- src/shares.rt:62:13
+add-n : tie.Need-add-n Inv-loop μ-loop
+add-n c = let r = c .before .before .before .pre .ranged .d-most in search needs
+
+-- src/shares.rt:64:5
+loop-holds : tie.Need-loop-holds Inv-loop μ-loop
+loop-holds c = (search needs, refl, refl, refl, refl, sym (pour-none _ _ _ (rows-none _ _ _ _)))
+
+-- src/shares.rt:65:9
+pour-slot-requires : tie.Need-pour-slot-requires Inv-loop μ-loop
+pour-slot-requires c κs = let l = c .before .before .before .before .loop in
+    let s = c .before .before .before .before .before .before .before .before in
+    let q = ready s in
+    let i = l .inv in
+    (record { ranged = q .ranged; arrays = q .arrays; fair = q .fair; turns = slot-pourable _ _ _ _ _ _ _ _ _ (omega (arith, i .0, i .1, c .before .before .before .loop-test .taken)) (q .turns) (i .5) }, omega (arith, i .0, i .1, c .before .before .before .loop-test .taken))
+
+-- src/shares.rt:64:9
+add-slot : tie.Need-add-slot Inv-loop μ-loop
+add-slot c = search needs
+
+-- src/shares.rt:64:5
+loop-less : tie.Need-loop-less Inv-loop μ-loop
+loop-less c = search needs
+
+-- src/shares.rt:64:5
+loop-again : tie.Need-loop-again Inv-loop μ-loop
+loop-again c = let o = c .before .before .before .before .pour-slot in
+    let l = c .before .before .before .before .before .before .before .before .before .loop in
+    let k = o .kept .1 .1 in
+    (search needs, refl, k .0 ∙ l .inv .2, k .1 .0 ∙ l .inv .3, k .1 .1 .0 ∙ l .inv .4, pour-turn _ (c .before .before .before .before .before .before .before .before .before .before .before .before .before .args .head) _ _ _ _ _ _ _ _ _ _ _ _ (l .inv .5) (o .ensures) (rows-more _ _ _ _ (l .slot)))
+
+-- src/shares.rt:58:1
+same-length : tie.Need-same-length Inv-loop μ-loop
+same-length c = search needs
+
+-- src/shares.rt:58:1
+same-length-2 : tie.Need-same-length-2 Inv-loop μ-loop
+same-length-2 c = search needs
+
+-- src/shares.rt:58:1
+same-length-3 : tie.Need-same-length-3 Inv-loop μ-loop
+same-length-3 c = search needs
+
+-- src/shares.rt:58:1
+returns : tie.Need-returns Inv-loop μ-loop
+returns c = let l = c .before .loop in
+    let s = c .before .before .before .before .before in
+    ended (s .args .value) _ (toZ-ofZ (s .fits .value)) (s .args .head) _ _ _ (l .slot) _ (omega (arith, l .inv)) _ _ _ _ (l .inv .5)
+
+pub pour-shares-spec : {M : Type 1} → statement M
+pour-shares-spec =
+    tie.close
+    (tie.spec
+    Inv-loop
+    μ-loop
+    add-n
+    loop-holds
+    pour-slot-requires
+    add-slot
+    loop-less
+    loop-again
+    same-length
+    same-length-2
+    same-length-3
+    returns)

@@ -1,0 +1,4 @@
+pub mod Keys
+pub mod Search
+pub mod Indexed
+pub mod Theorems

@@ -1,0 +1,36 @@
+-- What is true of an index that finds each of its points. Statements: the proofs stand in proofs/.
+use mathlib.Core.Path.{_≡_}
+use mathlib.Core.Logic.{_↔_, _≢_}
+use mathlib.Core.List.{List, [], _∷_}
+use Prim.Native.Nat.{ℕ, suc, _*_, _<_}
+use lib.IntN.{ℤ, pos, negsuc}
+use Rattle.index.specs.Keys.{home}
+use Rattle.index.specs.Search.{search}
+use Rattle.index.specs.Indexed.{Indexed}
+
+-- searching for a key finds exactly the point that has it
+abbrev pub FindsExactly : Type 0
+FindsExactly = (C m : ℕ) (key : ℕ → List ℤ) (entry : ℕ → ℕ) → 0 < C → Indexed C m key entry → (k : List ℤ) (i : ℕ)
+    → (entry (search C key entry k) ≡ suc i) ↔ ((i < m) × (key i ≡ k))
+
+-- an empty place exists
+abbrev pub EmptyPlace : Type 0
+EmptyPlace = (C m : ℕ) (key : ℕ → List ℤ) (entry : ℕ → ℕ) → 0 < C → Indexed C m key entry → (p : ℕ) × (p < 2 * C) × (entry p ≡ 0)
+
+-- no two points have one key
+abbrev pub KeysApart : Type 0
+KeysApart = (C m : ℕ) (key : ℕ → List ℤ) (entry : ℕ → ℕ) → 0 < C → Indexed C m key entry → (i j : ℕ) → i < m → j < m → key i ≡ key j → i ≡ j
+
+-- "A new point takes the empty place found": the index then finds each of the points before, and the new one
+abbrev pub NewPointFound : Type 0
+NewPointFound = (C m : ℕ) (key : ℕ → List ℤ) (entry : ℕ → ℕ) → 0 < C → Indexed C m key entry
+    → (k : List ℤ) (key′ : ℕ → List ℤ) (entry′ : ℕ → ℕ) → entry (search C key entry k) ≡ 0 → m < C
+    → ((i : ℕ) → i < m → key′ i ≡ key i) → key′ m ≡ k
+    → entry′ (search C key entry k) ≡ suc m → ((p : ℕ) → p ≢ search C key entry k → entry′ p ≡ entry p)
+    → Indexed C (suc m) key′ entry′
+
+-- "*d=1, C=8: home of key 1 is 3, of 2 is 6, of -1 is 13."
+pub record HomeCases : Type 0 where
+  pub of-one : home 8 (pos 1 ∷ []) ≡ 3
+  pub of-two : home 8 (pos 2 ∷ []) ≡ 6
+  pub of-minus-one : home 8 (negsuc 0 ∷ []) ≡ 13

@@ -1,0 +1,4 @@
+pub mod Appending
+pub mod Seeking
+pub mod Raising
+pub mod Addition

@@ -1,0 +1,72 @@
+// Rows added to a table in lent memory, which is what entering a reading and merging a table do:
+// "A point not yet stored is appended after the last, starting from 0."
+ghost use mathlib.Core.Path.{_≡_};
+ghost use Rattle.table.specs.Heads.{settings, stored, Holds};
+ghost use Rattle.table.specs.Inner.{Addable};
+ghost use Rattle.table.specs.Pour.{append, add};
+ghost use Rattle.pour.specs.Inner.{Appendable, Sought, oneIfNew};
+
+mod pair;
+mod stretch;
+
+use crate::pair::raise_pair;
+use crate::pair::set_pair;
+use crate::stretch::store_key;
+
+// A new point after the last, at an empty index place: its key, its pair, and the place that names it.
+fn append_row(
+    head: table::Head,
+    points: usize,
+    keys: &mut [i32],
+    sums: &mut [i64],
+    index: &mut [u16],
+    place: usize,
+    key: &[i32],
+    mass: i64,
+    value: i64,
+) -> usize
+    requires { ⌜ Appendable (settings head) (stored head points (now keys) (now sums) (now index)) place (record { key = now key; mass = mass; value = value }) ⌝ }
+    ensures { λ r. ⌜ Holds (append (settings head) (stored head points (now (keys .entry)) (now (sums .entry)) (now (index .entry))) place (record { key = now (key .entry); mass = mass; value = value })) r (now (keys .exit)) (now (sums .exit)) (now (index .exit)) ⌝ }
+{
+    let next = points + 1;
+    store_key(keys, key, points);
+    set_pair(sums, points, mass, value);
+    index[place] = next as u16;
+    next
+}
+
+// A row added to the point that has its key, or else appended. The answer is the number of points.
+pub fn add_row(
+    head: table::Head,
+    points: usize,
+    keys: &mut [i32],
+    sums: &mut [i64],
+    index: &mut [u16],
+    key: &[i32],
+    mass: i64,
+    value: i64,
+) -> usize
+    requires { ⌜ Addable (settings head) (stored head points (now keys) (now sums) (now index)) (record { key = now key; mass = mass; value = value }) ⌝ }
+    ensures { λ r. ⌜ Holds (add (settings head) (stored head points (now (keys .entry)) (now (sums .entry)) (now (index .entry))) (record { key = now (key .entry); mass = mass; value = value })) r (now (keys .exit)) (now (sums .exit)) (now (index .exit)) ⌝ }
+{
+    let place = index::search::search(keys, index, head.capacity, key);
+    let entry = index[place];
+    if entry == 0 {
+        return append_row(head, points, keys, sums, index, place, key, mass, value);
+    }
+    raise_pair(sums, (entry as usize) - 1, mass, value);
+    points
+}
+
+// 1 where the key is not stored, else 0: what it adds to the number of points that are new.
+pub fn is_new(head: table::Head, keys: &[i32], index: &[u16], key: &[i32]) -> usize
+    requires { ⌜ Sought (settings head) (now keys) (now index) (now key) ⌝ }
+    ensures { λ r. ⌜ r ≡ oneIfNew (settings head) (now (keys .entry)) (now (index .entry)) (now (key .entry)) ⌝ }
+{
+    let place = index::search::search(keys, index, head.capacity, key);
+    let entry = index[place];
+    if entry == 0 {
+        return 1;
+    }
+    0
+}

@@ -1,0 +1,75 @@
+-- What the tests of a table decide together: that it is sound, and by which number a call on it is refused.
+use mathlib.Core.Path.{_≡_, refl, ap, sym, _∙_}
+use mathlib.Core.Bool.{Bool, true, false}
+use Prim.Native.Nat.{ℕ, _*_, _<_, _≤_}
+use native.Mathlib.Nat.{mul-le-mul, le-refl}
+use native.Mathlib.Omega.{arith}
+use borrow.Author.Tests.{le-leb, lt-leb}
+use Rattle.lattice.specs.Limits.{most-readings}
+use Rattle.lattice.specs.Refusals.{first, settings-out-of-range, other-length, not-sound}
+use Rattle.lattice.specs.Weight.{W}
+use Rattle.index.specs.Indexed.{sparse, finding}
+use Rattle.table.specs.Table.{Settings, Table, key, entry}
+use Rattle.table.specs.Sound.{sound, indexed}
+use Rattle.table.specs.Calls.{ranged, fits, callRefusal}
+use Rattle.table.specs.Inner.{Ranged, Shape}
+use Rattle.soundness.specs.Inner.{goodRows, Rows}
+
+module _ (c : Settings) (t : Table) where
+  abbrev pub thin : Bool
+  thin = sparse (c .C) (t .m) (entry t)
+
+  abbrev pub found : Bool
+  found = finding (c .C) (t .m) (key c t) (entry t)
+
+  -- the slices have the points that are counted
+  pub rows-of : Ranged c → Shape c t → t .m ≤ c .C → Rows (c .d) (t .m) (t .keys) (t .sums)
+  rows-of R H m = record {
+    d-least = R .d-least;
+    d-most = R .d-most;
+    few = omega (arith, R .C-most, m);
+    stretches = omega (arith, H .keys, mul-le-mul (le-refl (c .d)) m);
+    pairs = omega (arith, H .sums, m);
+  }
+
+  pub too-many-points : c .C < t .m → false ≡ sound c t
+  unfolding sound indexed
+  too-many-points h = sym (rw (lt-leb (t .m) (c .C) h) refl)
+
+  pub too-many-readings : t .m ≤ c .C → most-readings < t .n → false ≡ sound c t
+  unfolding sound indexed
+  too-many-readings m h = sym (rw (le-leb (t .m) (c .C) m, lt-leb (t .n) most-readings h) refl)
+
+  module _ (m : t .m ≤ c .C) (n : t .n ≤ most-readings) where
+    pub not-thin : thin ≡ false → false ≡ sound c t
+    unfolding sound indexed
+    not-thin e = sym (rw (le-leb (t .m) (c .C) m, le-leb (t .n) most-readings n, e) refl)
+
+    pub not-found : thin ≡ true → found ≡ false → false ≡ sound c t
+    unfolding sound indexed
+    not-found e f = sym (rw (le-leb (t .m) (c .C) m, le-leb (t .n) most-readings n, e, f) refl)
+
+    pub by-rows : {r : Bool} {total : ℕ} → thin ≡ true → found ≡ true → total ≡ W (c .d) (c .S) * t .n → r ≡ goodRows total (c .d) (t .m) (t .keys) (t .sums) → r ≡ sound c t
+    unfolding sound indexed goodRows
+    by-rows e f o g = g ∙ ap (λ (n : ℕ). goodRows n (c .d) (t .m) (t .keys) (t .sums)) o ∙ sym (rw (le-leb (t .m) (c .C) m, le-leb (t .n) most-readings n, e, f) refl)
+
+  module _ (more : Bool) where
+    pub call-one : ranged c ≡ false → settings-out-of-range ≡ callRefusal c t more
+    unfolding callRefusal first
+    call-one e = sym (rw e refl)
+
+    pub call-two : ranged c ≡ true → fits c t ≡ false → other-length ≡ callRefusal c t more
+    unfolding callRefusal first
+    call-two e f = sym (rw (e, f) refl)
+
+    pub call-more : ranged c ≡ true → fits c t ≡ true → more ≡ false → other-length ≡ callRefusal c t more
+    unfolding callRefusal first
+    call-more e f g = sym (rw (e, f, g) refl)
+
+    pub call-three : ranged c ≡ true → fits c t ≡ true → more ≡ true → sound c t ≡ false → not-sound ≡ callRefusal c t more
+    unfolding callRefusal first
+    call-three e f g h = sym (rw (e, f, g, h) refl)
+
+    pub call-none : ranged c ≡ true → fits c t ≡ true → more ≡ true → sound c t ≡ true → 0 ≡ callRefusal c t more
+    unfolding callRefusal first
+    call-none e f g h = sym (rw (e, f, g, h) refl)

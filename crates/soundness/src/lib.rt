@@ -1,0 +1,69 @@
+// Whether a table is sound, on lent memory that may hold anything: nothing wraps and nothing is read
+// out of range. Refusals 1, 2 and 3 of a call, which every call on a table makes first.
+ghost use mathlib.Core.Path.{_≡_};
+ghost use Rattle.table.specs.Sound.{sound};
+ghost use Rattle.table.specs.Calls.{callRefusal};
+ghost use Rattle.table.specs.Heads.{settings, table};
+ghost use Rattle.table.specs.Inner.{Ranged, Shape};
+
+mod places;
+mod points;
+mod rows;
+
+use crate::places::finds_all;
+use crate::places::index_is_sparse;
+use crate::rows::rows_are_good;
+use crate::rows::total_of;
+use lattice::limits::MOST_READINGS;
+use lattice::refusals::NOT_SOUND;
+use lattice::refusals::OTHER_LENGTH;
+use lattice::refusals::SETTINGS_OUT_OF_RANGE;
+use table::settings::in_range;
+use table::settings::lengths_fit;
+
+// One pass over the index, one search a key and one pass over the points. The counts come first, then
+// the index entries: only then does each name a stretch of the keys, and only then can a search end.
+pub fn is_sound(head: table::Head, keys: &[i32], sums: &[i64], index: &[u16]) -> bool
+    requires { ⌜ Ranged (settings head) ⌝ }
+    requires { ⌜ Shape (settings head) (table head (now keys) (now sums) (now index)) ⌝ }
+    ensures { λ r. ⌜ r ≡ sound (settings head) (table head (now (keys .entry)) (now (sums .entry)) (now (index .entry))) ⌝ }
+{
+    let d = head.d;
+    let capacity = head.capacity;
+    let readings = head.readings;
+    let points = head.points;
+    if capacity < points {
+        return false;
+    }
+    if MOST_READINGS < readings {
+        return false;
+    }
+    if !index_is_sparse(index, capacity, points) {
+        return false;
+    }
+    if !finds_all(keys, index, d, capacity, points) {
+        return false;
+    }
+    let total = total_of(d, head.fineness, readings);
+    rows_are_good(keys, sums, d, points, total)
+}
+
+// The number of the first of refusals 1, 2 and 3 that is met, else 0. Where a call is lent more than
+// the table, `more` says whether that has its length too.
+pub fn refusal_of(head: table::Head, keys: &[i32], sums: &[i64], index: &[u16], more: bool) -> u8
+    ensures { λ r. ⌜ r ≡ callRefusal (settings head) (table head (now (keys .entry)) (now (sums .entry)) (now (index .entry))) more ⌝ }
+{
+    if !in_range(head.d, head.fineness, head.capacity) {
+        return SETTINGS_OUT_OF_RANGE;
+    }
+    if !lengths_fit(head.d, head.capacity, keys.len(), sums.len(), index.len()) {
+        return OTHER_LENGTH;
+    }
+    if !more {
+        return OTHER_LENGTH;
+    }
+    if !is_sound(head, keys, sums, index) {
+        return NOT_SOUND;
+    }
+    0
+}

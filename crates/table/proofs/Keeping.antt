@@ -1,0 +1,218 @@
+-- Soundness is kept: by accepting rows, hence by entering readings and by merging a table; a fresh table is sound. What each adds to the
+-- sums over the rows.
+use mathlib.Core.Path.{_≡_, refl, sym, ap, ap₂, _∙_, subst}
+use mathlib.Core.Bool.{Bool, false, _&&_}
+use mathlib.Core.List.{List, [], _∷_}
+use Prim.Native.Nat.{ℕ, zero, suc, _+_, _*_, _/_, _≤_}
+use native.Mathlib.Nat.{not-suc-le-zero}
+use native.Mathlib.Omega.{arith}
+use lib.IntN.{ℤ, pos, _+ℤ_}
+use lib.Signed.{_≤ℤ_}
+use lib.Dec.{T, eqb, eqb→eq, leb, leb→le}
+use lib.ListN.{length, length-replicate, getD-replicate}
+use Rattle.whole.specs.Sum.{sum, over}
+use Rattle.whole.specs.Lists.{at}
+use Rattle.whole.proofs.Parts.{le-out}
+use Rattle.whole.proofs.Lists.{length-tab}
+use Rattle.whole.proofs.Tests.{and-l, and-r}
+use Rattle.lattice.specs.Limits.{most-W, most-readings}
+use Rattle.lattice.specs.Refusals.{settings-out-of-range, other-length, not-sound, settings-differ, too-many-readings, too-many-points}
+use Rattle.lattice.specs.Weight.{W}
+use Rattle.index.specs.Indexed.{count, used}
+use Rattle.index.proofs.Count.{count-cong}
+use Rattle.index.proofs.Finding.{keys-apart}
+use Rattle.table.specs.Table.{Settings, Table, Row, key, row, rows, entry}
+use Rattle.table.specs.Sound.{sound, Good}
+use Rattle.table.specs.Pour.{pour, news, accept}
+use Rattle.table.specs.Reading.{Reading, readingAt, parsed, shares, refusal, entered}
+use Rattle.table.specs.Calls.{ranged, fits, fresh, mergeRefusal, merged, callRefusal}
+use Rattle.table.specs.Inner.{Ranged, massOf}
+use Rattle.table.proofs.Lists.{All, Each, all-tab, each-tab}
+use Rattle.table.proofs.Rows.{Apart, Additive}
+use Rattle.table.proofs.Soundness.{Fine, to-ranged, to-shape, to-sound, fine-kept, masses-over, total-most}
+use Rattle.table.proofs.Pouring.{Pourable, poured-all}
+use Rattle.table.proofs.Refusals.{first-zero}
+use Rattle.table.proofs.Shares.{Accepted, accepted, shares-apart, shares-mass, shares-good}
+
+-- ---- accepting rows
+rows-counted : (c : Settings) (t : Table) (rs : List Row) (k : ℕ) → rows c (accept c t rs k) ≡ rows c (pour c t rs)
+unfolding rows
+rows-counted c t rs k = refl
+
+-- rows that stand for k readings more
+pub record Acceptable (c : Settings) (t : Table) (rs : List Row) (k : ℕ) : Type 0 where
+  pub fine : Fine c t
+  pub good : All (Good (c .d)) rs
+  pub apart : Each Apart rs
+  pub room : t .m + news c t rs ≤ c .C
+  pub few : t .n + k ≤ most-readings
+  pub total : over rs massOf ≡ pos (W (c .d) (c .S) * k)
+
+both : (w a b : ℕ) → pos (w * a) +ℤ pos (w * b) ≡ pos (w * (a + b))
+both w a b = let e : w * a + w * b ≡ w * (a + b) = omega arith in ap pos e
+
+pub acceptable-pours : (c : Settings) (t : Table) (rs : List Row) (k : ℕ) → Acceptable c t rs k → Pourable c t rs
+acceptable-pours c t rs k A =
+    let w = W (c .d) (c .S) in
+    record {
+      ranged = A .fine .ranged;
+      kept = fine-kept c t (A .fine);
+      good = A .good;
+      apart = A .apart;
+      room = A .room;
+      light = subst (λ (z : ℤ). z ≤ℤ pos (most-W * most-readings)) (sym (ap₂ _+ℤ_ (masses-over c t ∙ A .fine .sound .masses) (A .total) ∙ both w (t .n) k))
+          (le-out (pos (w * (t .n + k))) (pos (most-W * most-readings)) (omega (arith, total-most c (t .n + k) (A .fine .ranged) (A .few))));
+    }
+
+-- u is t with k readings more, which add g to each sum over the rows
+pub record Adds (c : Settings) (t u : Table) (k : ℕ) (g : (Row → ℤ) → ℤ) : Type 0 where
+  pub fine : Fine c u
+  pub count : u .n ≡ t .n + k
+  pub sums : (f : Row → ℤ) → Additive f → over (rows c u) f ≡ over (rows c t) f +ℤ g f
+
+pub accept-adds : (c : Settings) (t : Table) (rs : List Row) (k : ℕ) → Acceptable c t rs k → Adds c t (accept c t rs k) k (over rs)
+accept-adds c t rs k A =
+    let O = poured-all c t rs (acceptable-pours c t rs k A) in
+    let w = W (c .d) (c .S) in
+    record {
+      fine = record {
+        ranged = A .fine .ranged;
+        shape = record { keys = O .kept .shape .keys; sums = O .kept .shape .sums; index = O .kept .shape .index };
+        sound = record {
+          indexed = O .kept .indexed;
+          few = omega (arith, O .same-n, A .few);
+          good = O .kept .good;
+          masses = sym (masses-over c (pour c t rs)) ∙ O .adds massOf (λ a b e. refl)
+              ∙ ap₂ _+ℤ_ (masses-over c t ∙ A .fine .sound .masses) (A .total) ∙ both w (t .n) k ∙ ap (λ (n : ℕ). pos (w * (n + k))) (sym (O .same-n));
+        };
+      };
+      count = ap (λ (n : ℕ). n + k) (O .same-n);
+      sums = λ f H. ap (λ (l : List Row). over l f) (rows-counted c t rs k) ∙ O .adds f H;
+    }
+
+-- ---- entering a reading
+pub reading-acceptable : (c : Settings) (t : Table) (r : Reading) → Fine c t → Accepted c t r → Acceptable c t (shares (c .d) (c .S) r) 1
+reading-acceptable c t r F A =
+    let one : W (c .d) (c .S) ≡ W (c .d) (c .S) * 1 = omega arith in
+    record {
+      fine = F;
+      good = shares-good c (F .ranged) r (A .position) (A .fair);
+      apart = shares-apart (c .d) (c .S) (F .ranged .S-least) r;
+      room = A .room;
+      few = A .few;
+      total = shares-mass (c .d) (c .S) (F .ranged .S-least) r ∙ ap pos one;
+    }
+
+pub entered-adds : (c : Settings) (t : Table) (r : Reading) → length (r .place) ≡ suc (c .d) → Fine c t → refusal c t r ≡ 0 → Adds c t (entered c t r) 1 (over (shares (c .d) (c .S) r))
+entered-adds c t r size F e = accept-adds c t (shares (c .d) (c .S) r) 1 (reading-acceptable c t r F (accepted c t r size e))
+
+-- the readings of a list have d + 1 coordinates
+pub parsed-size : (d : ℕ) (l : List ℤ) → All (λ r. length (r .place) ≡ suc d) (parsed d l)
+unfolding parsed
+parsed-size d l = all-tab (λ r. length (r .place) ≡ suc d) (length l / (d + 2)) (readingAt d l) (λ j h. length-tab (suc d) (λ i. at l ((d + 2) * j + i)))
+
+-- ---- a call that is not refused as a whole
+pub record Called (c : Settings) (t : Table) (more : Bool) : Type 0 where
+  pub fine : Fine c t
+  pub whole : T more
+
+pub called : (c : Settings) (t : Table) (more : Bool) → callRefusal c t more ≡ 0 → Called c t more
+unfolding callRefusal
+called c t more e =
+    let (t1, e1) = first-zero (ranged c) 0 ((fits c t && more, other-length) ∷ (sound c t, not-sound) ∷ []) e in
+    let (t2, e2) = first-zero (fits c t && more) 1 ((sound c t, not-sound) ∷ []) e1 in
+    let (t3, e3) = first-zero (sound c t) 2 [] e2 in
+    record { fine = record { ranged = to-ranged c t1; shape = to-shape c t (and-l (fits c t) more t2); sound = to-sound c t t3 }; whole = and-r (fits c t) more t2 }
+
+-- ---- merging
+pub record Mergeable (c : Settings) (t : Table) (b : Settings) (s : Table) : Type 0 where
+  pub target : Fine c t
+  pub source : Fine b s
+  pub same-d : c .d ≡ b .d
+  pub same-S : c .S ≡ b .S
+  pub few : t .n + s .n ≤ most-readings
+  pub room : t .m + news c t (rows b s) ≤ c .C
+
+pub mergeable : (c : Settings) (t : Table) (b : Settings) (s : Table) → mergeRefusal c t b s ≡ 0 → Mergeable c t b s
+unfolding mergeRefusal
+mergeable c t b s e =
+    let x = eqb (c .d) (b .d) in
+    let y = eqb (c .S) (b .S) in
+    let f = leb (t .n + s .n) most-readings in
+    let g = leb (t .m + news c t (rows b s)) (c .C) in
+    let l9 : List (Bool × ℕ) = (g, too-many-points) ∷ [] in
+    let l8 : List (Bool × ℕ) = (f, too-many-readings) ∷ l9 in
+    let l7 : List (Bool × ℕ) = (x && y, settings-differ) ∷ l8 in
+    let l6 : List (Bool × ℕ) = (sound b s, not-sound) ∷ l7 in
+    let l5 : List (Bool × ℕ) = (sound c t, not-sound) ∷ l6 in
+    let l4 : List (Bool × ℕ) = (fits b s, other-length) ∷ l5 in
+    let l3 : List (Bool × ℕ) = (fits c t, other-length) ∷ l4 in
+    let l2 : List (Bool × ℕ) = (ranged b, settings-out-of-range) ∷ l3 in
+    let (t1, e1) = first-zero (ranged c) 0 l2 e in
+    let (t2, e2) = first-zero (ranged b) 0 l3 e1 in
+    let (t3, e3) = first-zero (fits c t) 1 l4 e2 in
+    let (t4, e4) = first-zero (fits b s) 1 l5 e3 in
+    let (t5, e5) = first-zero (sound c t) 2 l6 e4 in
+    let (t6, e6) = first-zero (sound b s) 2 l7 e5 in
+    let (t7, e7) = first-zero (x && y) 8 l8 e6 in
+    let (t8, e8) = first-zero f 6 l9 e7 in
+    let (t9, e9) = first-zero g 7 [] e8 in
+    record {
+      target = record { ranged = to-ranged c t1; shape = to-shape c t t3; sound = to-sound c t t5 };
+      source = record { ranged = to-ranged b t2; shape = to-shape b s t4; sound = to-sound b s t6 };
+      same-d = eqb→eq (c .d) (b .d) (and-l x y t7);
+      same-S = eqb→eq (c .S) (b .S) (and-r x y t7);
+      few = leb→le (t .n + s .n) most-readings t8;
+      room = leb→le (t .m + news c t (rows b s)) (c .C) t9;
+    }
+
+module _ (b : Settings) (s : Table) (F : Fine b s) where
+  pub rows-apart : Each Apart (rows b s)
+  unfolding rows
+  rows-apart = each-tab Apart (s .m) (row b s)
+      (λ i j h l e. let q = keys-apart (b .C) (s .m) (key b s) (entry s) (F .ranged .C-least) (F .sound .indexed) i j (omega arith) l e in omega (arith, q))
+
+  pub rows-good : All (Good (b .d)) (rows b s)
+  unfolding rows
+  rows-good = all-tab (Good (b .d)) (s .m) (row b s) (F .sound .good)
+
+  pub rows-mass : over (rows b s) massOf ≡ pos (W (b .d) (b .S) * s .n)
+  rows-mass = masses-over b s ∙ F .sound .masses
+
+pub source-acceptable : (c : Settings) (t : Table) (b : Settings) (s : Table) → Mergeable c t b s → Acceptable c t (rows b s) (s .n)
+source-acceptable c t b s M = record {
+  fine = M .target;
+  good = subst (λ (d : ℕ). All (Good d) (rows b s)) (sym (M .same-d)) (rows-good b s (M .source));
+  apart = rows-apart b s (M .source);
+  room = M .room;
+  few = M .few;
+  total = rows-mass b s (M .source) ∙ ap₂ (λ (d S : ℕ). pos (W d S * s .n)) (sym (M .same-d)) (sym (M .same-S));
+}
+
+pub merged-adds : (c : Settings) (t : Table) (b : Settings) (s : Table) → Mergeable c t b s → Adds c t (merged c t b s) (s .n) (over (rows b s))
+merged-adds c t b s M = accept-adds c t (rows b s) (s .n) (source-acceptable c t b s M)
+
+-- ---- a fresh table
+pub fresh-fine : (c : Settings) → Ranged c → Fine c (fresh c)
+unfolding fresh sum count
+fresh-fine c G = record {
+  ranged = G;
+  shape = record { keys = length-replicate (c .d * c .C) (pos 0); sums = length-replicate (2 * c .C) (pos 0); index = length-replicate (2 * c .C) 0 };
+  sound = record {
+    indexed = record {
+      sparse = record {
+        room = omega arith;
+        low = λ p l. omega (arith, getD-replicate {A = ℕ} (2 * c .C) p 0 0 l);
+        full = count-cong (2 * c .C) (used (entry (fresh c))) (λ p. false) (λ p l. rw (getD-replicate {A = ℕ} (2 * c .C) p 0 0 l)) ∙ no-place (2 * c .C);
+      };
+      finds = λ i l. absurd (not-suc-le-zero l);
+    };
+    few = omega arith;
+    good = λ i l. absurd (not-suc-le-zero l);
+    masses = ap pos (omega arith);
+  };
+}
+  where
+    no-place : (n : ℕ) → count n (λ p. false) ≡ 0
+    no-place zero = refl
+    no-place (suc n) = rw (no-place n)

@@ -1,0 +1,66 @@
+-- Soundness: document 01's sentence, as a test that computes and as the facts that it stands for.
+use mathlib.Core.Path.{_≡_}
+use mathlib.Core.Bool.{Bool, _&&_}
+use mathlib.Core.List.{List}
+use Prim.Native.Nat.{ℕ, suc, _*_, _≤_, _<_}
+use lib.Dec.{eqb, leb}
+use lib.IntN.{ℤ, pos, negℤ, natAbs, _*ℤ_}
+use lib.ListN.{length}
+use lib.Signed.{leZ, _≤ℤ_}
+use Rattle.whole.specs.Size.{Abs≤}
+use Rattle.whole.specs.Floor.{remainder}
+use Rattle.whole.specs.Sum.{sum, all}
+use Rattle.whole.specs.Lists.{at}
+use Rattle.lattice.specs.Limits.{farthest-point, most-value, most-readings}
+use Rattle.lattice.specs.Lattice.{Point, remainderOf}
+use Rattle.lattice.specs.Weight.{W}
+use Rattle.index.specs.Keys.{eqZ}
+use Rattle.index.specs.Indexed.{sparse, finding, Indexed}
+use Rattle.table.specs.Table.{Settings, Table, Row, key, mass, row, whole, entry}
+
+-- z is from -b to b
+abbrev pub within : ℤ → ℤ → Bool
+within b z = leZ (negℤ b) z && leZ z b
+
+-- "each key has one common remainder",
+abbrev pub oneRemainder : ℕ → List ℤ → Bool
+oneRemainder d y = all (suc d) (λ j. eqb (remainder (at y j) (suc d)) (remainderOf d (at y)))
+
+-- "and all d+1 coordinates are within ±1,000,005";
+abbrev pub allReached : ℕ → List ℤ → Bool
+allReached d y = all (suc d) (λ j. leb (natAbs (at y j)) farthest-point)
+
+unfoldable pub goodKey : ℕ → List ℤ → Bool
+goodKey d k = oneRemainder d (whole k) && allReached d (whole k)
+
+-- "each mass is at least 1; each value sum is within ±1,000,000 times its mass";
+unfoldable pub goodPair : ℤ → ℤ → Bool
+goodPair m v = leZ (pos 1) m && within (pos most-value *ℤ m) v
+
+abbrev pub good : ℕ → Row → Bool
+good d r = goodKey d (r .key) && goodPair (r .mass) (r .value)
+
+-- "m is at most C and n at most 4,096; every index entry is 0 to m and exactly m are not 0; searching for each of the m keys finds that
+-- same point";
+unfoldable pub indexed : Settings → Table → Bool
+indexed c t = leb (t .m) (c .C) && leb (t .n) most-readings && (sparse (c .C) (t .m) (entry t) && finding (c .C) (t .m) (key c t) (entry t))
+
+-- and "the masses sum to W·n."
+unfoldable pub sound : Settings → Table → Bool
+sound c t = indexed c t && (all (t .m) (λ i. good (c .d) (row c t i)) && eqZ (sum (t .m) (mass t)) (pos (W (c .d) (c .S) * t .n)))
+
+-- The same as facts: a stored point
+pub record Good (d : ℕ) (r : Row) : Type 0 where
+  pub size : length (r .key) ≡ d
+  pub point : Point d (whole (r .key))
+  pub near : (j : ℕ) → j < suc d → Abs≤ (at (whole (r .key)) j) farthest-point
+  pub some : pos 1 ≤ℤ r .mass
+  pub low : negℤ (pos most-value *ℤ r .mass) ≤ℤ r .value
+  pub high : r .value ≤ℤ (pos most-value *ℤ r .mass)
+
+-- and a table of them.
+pub record Sound (c : Settings) (t : Table) : Type 0 where
+  pub indexed : Indexed (c .C) (t .m) (key c t) (entry t)
+  pub few : t .n ≤ most-readings
+  pub good : (i : ℕ) → i < t .m → Good (c .d) (row c t i)
+  pub masses : sum (t .m) (mass t) ≡ pos (W (c .d) (c .S) * t .n)

@@ -1,0 +1,19 @@
+// A table of readings: the head, which is passed by value, and the call that makes a fresh table.
+// What a table means and what each call answers stands in specs/, and the laws of that in proofs/.
+pub mod fresh;
+pub mod settings;
+
+// The settings (d, S, C) and the numbers of readings and of points.
+pub struct Head {
+    pub d: usize,
+    pub fineness: u32,
+    pub capacity: usize,
+    pub readings: usize,
+    pub points: usize,
+}
+
+// What a call answers: document 01's number, 0 where it was done, and the head.
+pub struct Answer {
+    pub number: u8,
+    pub head: Head,
+}
