@@ -1,31 +1,24 @@
 // The small numbers of document 01, run through the compiled library. A position is printed with the
 // points of weight above 0 for it and their weights, or with the number by which it is refused; a
-// quotient with what it is rounded to; a division with its remainder. What this prints is held to
-// the file stdout beside src/. Its numbers are the document's, but for the one point of
-// (1000000,-1000000): the document says only that it is taken, and as a lattice point it has all of W.
+// quotient with what it is rounded to; a division with its remainder; a list of readings with how many
+// were taken, the number, and the table. What this prints is held to the file stdout beside src/. Its
+// numbers are the document's, but for the one point of (1000000,-1000000): the document says only that
+// it is taken, and as a lattice point it has all of W.
 ghost use mathlib.Core.Path.{_≡_};
 ghost use Prim.Native.Nat.{_<_, _≤_};
 ghost use lib.ListN.{length};
+
+mod print;
+mod tables;
+
+use crate::print::print_number;
+use crate::print::print_numbers;
+use crate::tables::show_entered;
+use crate::tables::show_merged;
 use lattice::position::judge;
 use libc::STDOUT_FILENO;
 use simplex::Simplex;
 use simplex::enclose;
-
-fn print_number(x: i32) {
-    io::write_all(STDOUT_FILENO, b" ");
-    if x < 0 {
-        io::write_all(STDOUT_FILENO, b"-");
-    }
-    io::print_decimal(STDOUT_FILENO, whole::words::size_of(x) as u64);
-}
-
-fn print_numbers(xs: &[i32]) {
-    let n = xs.len();
-    for i in 0..n {
-        let x = xs[i];
-        print_number(x);
-    }
-}
 
 // The point in slot k, if there is one: its n coordinates and its weight.
 fn print_slot(s: Simplex, n: usize, k: usize)
@@ -131,4 +124,9 @@ fn main() {
     show_rounded(-2, 3);
     show_remainder(-4, 3);
     show_remainder(-1, 3);
+    show_entered(&[3, -3, 10, 2, -2, 4], 2);
+    show_merged(&[2, -2, 4], &[3, -3, 10], 2);
+    show_entered(&[1000000, -1000000, 0], 1);
+    show_entered(&[1000001, 0, 0], 1);
+    show_entered(&[5, -4, 0], 1);
 }

@@ -6,6 +6,7 @@ use mathlib.Core.Path.{_≡_}
 use lib.Dec.{eqb}
 use lib.IntN.{ℤ}
 use lib.ListN.{length, getD}
+use Rattle.lattice.specs.Limits.{most-C}
 use Rattle.index.specs.Keys.{same, home}
 
 -- the place after p, "round the end to 0"
@@ -32,7 +33,7 @@ search C key entry k = walk (2 * C) (λ p. stops key k (entry p)) (2 * C) (home 
 
 -- What a search in lent memory asks: 2·C places, one of them empty, and each of them 0 or the name of a stretch of the keys.
 pub record Searchable (C : ℕ) (keys : List ℤ) (index : List ℕ) (key : List ℤ) : Type 0 where
-  pub small : C ≤ 8192
+  pub small : C ≤ most-C
   pub places : length index ≡ 2 * C
   pub hole : ℕ
   pub hole-inside : hole < 2 * C

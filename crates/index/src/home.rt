@@ -1,6 +1,7 @@
 // The home place of a key: its hash modulo the number of index places.
 ghost use mathlib.Core.Path.{_≡_};
 ghost use Prim.Native.Nat.{_≤_};
+ghost use Rattle.lattice.specs.Limits.{most-C};
 ghost use Rattle.index.specs.Keys.{hash, home};
 
 // The number that a hash is multiplied by.
@@ -21,8 +22,9 @@ fn hash_of(key: &[i32]) -> u32
     h
 }
 
+// The hash modulo 2·C: an index has two places for each point that there is room for.
 pub fn home_of(key: &[i32], capacity: usize) -> usize
-    requires { ⌜ (1 ≤ capacity) × (capacity ≤ 8192) ⌝ }
+    requires { ⌜ (1 ≤ capacity) × (capacity ≤ most-C) ⌝ }
     ensures { λ r. ⌜ r ≡ home capacity (now (key .entry)) ⌝ }
 {
     let h = hash_of(key);

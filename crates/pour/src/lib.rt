@@ -1,6 +1,7 @@
 // Rows added to a table in lent memory, which is what entering a reading and merging a table do:
 // "A point not yet stored is appended after the last, starting from 0."
 ghost use mathlib.Core.Path.{_≡_};
+ghost use Rattle.table.specs.Table.{Row};
 ghost use Rattle.table.specs.Heads.{settings, stored, Holds};
 ghost use Rattle.table.specs.Inner.{Addable};
 ghost use Rattle.table.specs.Pour.{append, add};
@@ -25,8 +26,16 @@ fn append_row(
     mass: i64,
     value: i64,
 ) -> usize
-    requires { ⌜ Appendable (settings head) (stored head points (now keys) (now sums) (now index)) place (record { key = now key; mass = mass; value = value }) ⌝ }
-    ensures { λ r. ⌜ Holds (append (settings head) (stored head points (now (keys .entry)) (now (sums .entry)) (now (index .entry))) place (record { key = now (key .entry); mass = mass; value = value })) r (now (keys .exit)) (now (sums .exit)) (now (index .exit)) ⌝ }
+    requires { ⌜
+        (let t = stored head points (now keys) (now sums) (now index) in
+        let row : Row = record { key = now key; mass = mass; value = value } in
+        Appendable (settings head) t place row)
+        ⌝ }
+    ensures { λ r. ⌜
+        (let t = stored head points (now (keys .entry)) (now (sums .entry)) (now (index .entry)) in
+        let row : Row = record { key = now (key .entry); mass = mass; value = value } in
+        Holds (append (settings head) t place row) r (now (keys .exit)) (now (sums .exit)) (now (index .exit)))
+        ⌝ }
 {
     let next = points + 1;
     store_key(keys, key, points);
@@ -46,8 +55,16 @@ pub fn add_row(
     mass: i64,
     value: i64,
 ) -> usize
-    requires { ⌜ Addable (settings head) (stored head points (now keys) (now sums) (now index)) (record { key = now key; mass = mass; value = value }) ⌝ }
-    ensures { λ r. ⌜ Holds (add (settings head) (stored head points (now (keys .entry)) (now (sums .entry)) (now (index .entry))) (record { key = now (key .entry); mass = mass; value = value })) r (now (keys .exit)) (now (sums .exit)) (now (index .exit)) ⌝ }
+    requires { ⌜
+        (let t = stored head points (now keys) (now sums) (now index) in
+        let row : Row = record { key = now key; mass = mass; value = value } in
+        Addable (settings head) t row)
+        ⌝ }
+    ensures { λ r. ⌜
+        (let t = stored head points (now (keys .entry)) (now (sums .entry)) (now (index .entry)) in
+        let row : Row = record { key = now (key .entry); mass = mass; value = value } in
+        Holds (add (settings head) t row) r (now (keys .exit)) (now (sums .exit)) (now (index .exit)))
+        ⌝ }
 {
     let place = index::search::search(keys, index, head.capacity, key);
     let entry = index[place];

@@ -26,7 +26,10 @@ use table::settings::lengths_fit;
 pub fn is_sound(head: table::Head, keys: &[i32], sums: &[i64], index: &[u16]) -> bool
     requires { ⌜ Ranged (settings head) ⌝ }
     requires { ⌜ Shape (settings head) (table head (now keys) (now sums) (now index)) ⌝ }
-    ensures { λ r. ⌜ r ≡ sound (settings head) (table head (now (keys .entry)) (now (sums .entry)) (now (index .entry))) ⌝ }
+    ensures { λ r. ⌜
+        (let t = table head (now (keys .entry)) (now (sums .entry)) (now (index .entry)) in
+        r ≡ sound (settings head) t)
+        ⌝ }
 {
     let d = head.d;
     let capacity = head.capacity;
@@ -51,7 +54,10 @@ pub fn is_sound(head: table::Head, keys: &[i32], sums: &[i64], index: &[u16]) ->
 // The number of the first of refusals 1, 2 and 3 that is met, else 0. Where a call is lent more than
 // the table, `more` says whether that has its length too.
 pub fn refusal_of(head: table::Head, keys: &[i32], sums: &[i64], index: &[u16], more: bool) -> u8
-    ensures { λ r. ⌜ r ≡ callRefusal (settings head) (table head (now (keys .entry)) (now (sums .entry)) (now (index .entry))) more ⌝ }
+    ensures { λ r. ⌜
+        (let t = table head (now (keys .entry)) (now (sums .entry)) (now (index .entry)) in
+        r ≡ callRefusal (settings head) t more)
+        ⌝ }
 {
     if !in_range(head.d, head.fineness, head.capacity) {
         return SETTINGS_OUT_OF_RANGE;

@@ -11,6 +11,7 @@ use native.Mathlib.Omega.{arith}
 use lib.IntN.{ℤ, _+ℤ_}
 use lib.Dec.{eqb, eqb·suc-zero}
 use lib.ListN.{length}
+use Rattle.whole.specs.Lists.{All}
 use Rattle.whole.specs.Sum.{over}
 use Rattle.whole.proofs.Lists.{length-tab, getD-tab}
 use Rattle.index.specs.Indexed.{Indexed}
@@ -22,7 +23,7 @@ use Rattle.table.specs.Table.{Settings, Table, Row, key, row, rows, entr
 use Rattle.table.specs.Sound.{Good}
 use Rattle.table.specs.Pour.{append, raise, addAt, add, news}
 use Rattle.table.specs.Inner.{Ranged, Kept}
-use Rattle.table.proofs.Lists.{All, over-snoc, over-set}
+use Rattle.table.proofs.Lists.{over-snoc, over-set}
 use Rattle.table.proofs.Rows.{join, Additive}
 use Rattle.table.proofs.Store.{shape-append, key-old, key-new, row-old, row-new, rows-append, entry-at, entry-else, shape-raise, row-raised, row-else, rows-raise}
 use Rattle.table.proofs.Good.{good-join}

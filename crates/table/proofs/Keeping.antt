@@ -11,7 +11,7 @@ use lib.Signed.{_≤ℤ_}
 use lib.Dec.{T, eqb, eqb→eq, leb, leb→le}
 use lib.ListN.{length, length-replicate, getD-replicate}
 use Rattle.whole.specs.Sum.{sum, over}
-use Rattle.whole.specs.Lists.{at}
+use Rattle.whole.specs.Lists.{at, All, Each}
 use Rattle.whole.proofs.Parts.{le-out}
 use Rattle.whole.proofs.Lists.{length-tab}
 use Rattle.whole.proofs.Tests.{and-l, and-r}
@@ -27,7 +27,7 @@ use Rattle.table.specs.Pour.{pour, news, accept}
 use Rattle.table.specs.Reading.{Reading, readingAt, parsed, shares, refusal, entered}
 use Rattle.table.specs.Calls.{ranged, fits, fresh, mergeRefusal, merged, callRefusal}
 use Rattle.table.specs.Inner.{Ranged, massOf}
-use Rattle.table.proofs.Lists.{All, Each, all-tab, each-tab}
+use Rattle.table.proofs.Lists.{all-tab, each-tab}
 use Rattle.table.proofs.Rows.{Apart, Additive}
 use Rattle.table.proofs.Soundness.{Fine, to-ranged, to-shape, to-sound, fine-kept, masses-over, total-most}
 use Rattle.table.proofs.Pouring.{Pourable, poured-all}

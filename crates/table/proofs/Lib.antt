@@ -15,4 +15,4 @@ pub mod Meaning
 pub mod Theorems
 pub mod Calls
 pub mod Clearing
-pub mod Refusing
+pub mod Answering

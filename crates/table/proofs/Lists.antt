@@ -8,7 +8,7 @@ use native.Mathlib.Omega.{arith}
 use lib.IntN.{ℤ, +ℤ-idr, +ℤ-assoc, _+ℤ_}
 use lib.ListN.{length, getD, set, take, drop}
 use Rattle.whole.specs.Sum.{sum, over}
-use Rattle.whole.specs.Lists.{tab, collect}
+use Rattle.whole.specs.Lists.{tab, collect, All, Each}
 use Rattle.whole.proofs.Linear.{on, difs, ints}
 use Rattle.whole.proofs.Sum.{sum-first, over-append}
 use Rattle.whole.proofs.Lists.{tab-cong}
@@ -71,10 +71,6 @@ module _ {A : Type 0} where
   list-parts (b ∷ l) (suc j) a h = ap (λ (l : List A). b ∷ l) (list-parts l j a (le-of-suc-le-suc h))
 
   -- ---- each element has the property Q
-  abbrev pub All : (A → Type 0) → List A → Type 0
-  All Q [] = Unit {0}
-  All Q (a ∷ l) = Q a × All Q l
-
   pub all-tab : (Q : A → Type 0) (n : ℕ) (f : ℕ → A) → ((i : ℕ) → i < n → Q (f i)) → All Q (tab n f)
   unfolding tab
   all-tab Q zero f h = tt
@@ -92,10 +88,6 @@ module _ {A : Type 0} where
   all-after Q (a ∷ l) m h = all-after Q l m (h .1)
 
   -- ---- R holds of each element and each one after it
-  abbrev pub Each : (A → A → Type 0) → List A → Type 0
-  Each R [] = Unit {0}
-  Each R (a ∷ l) = All (R a) l × Each R l
-
   pub each-tab : (R : A → A → Type 0) (n : ℕ) (f : ℕ → A) → ((i j : ℕ) → i < j → j < n → R (f i) (f j)) → Each R (tab n f)
   unfolding tab
   each-tab R zero f h = tt

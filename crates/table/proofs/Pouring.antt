@@ -10,6 +10,7 @@ use lib.Signed.{_≤ℤ_, ≤ℤ-refl}
 use lib.Dec.{eqb}
 use lib.ListN.{length, getD, take}
 use lib.Seq.{take-suc}
+use Rattle.whole.specs.Lists.{All, Each}
 use Rattle.whole.specs.Sum.{over}
 use Rattle.whole.proofs.Linear.{on, difs, ints}
 use Rattle.whole.proofs.Sum.{over-append}
@@ -18,7 +19,7 @@ use Rattle.table.specs.Table.{Settings, Table, Row, rows, found}
 use Rattle.table.specs.Sound.{Good}
 use Rattle.table.specs.Pour.{append, add, pour, news}
 use Rattle.table.specs.Inner.{Ranged, Kept, Addable, massOf}
-use Rattle.table.proofs.Lists.{All, Each, all-before, all-after, each-before}
+use Rattle.table.proofs.Lists.{all-before, all-after, each-before}
 use Rattle.table.proofs.Rows.{Apart, Additive}
 use Rattle.table.proofs.Adding.{add-kept, add-n, add-m, add-over, add-news}
 

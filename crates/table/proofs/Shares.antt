@@ -13,7 +13,7 @@ use lib.Dec.{T, leb, leb→le}
 use lib.ListN.{length, getD, take}
 use Rattle.whole.specs.Size.{Abs≤}
 use Rattle.whole.specs.Sum.{sum, over}
-use Rattle.whole.specs.Lists.{at}
+use Rattle.whole.specs.Lists.{at, All, Each}
 use Rattle.whole.proofs.Linear.{on, difs, ints, dif-le}
 use Rattle.whole.proofs.Parts.{le-out}
 use Rattle.whole.proofs.Size.{abs-of, abs-lo, abs-hi}
@@ -34,7 +34,7 @@ use Rattle.table.specs.Sound.{Good}
 use Rattle.table.specs.Pour.{news}
 use Rattle.table.specs.Reading.{Reading, share, shares, refusal}
 use Rattle.table.specs.Inner.{Ranged, massOf}
-use Rattle.table.proofs.Lists.{All, Each, all-list, each-list, all-map, each-map, over-map}
+use Rattle.table.proofs.Lists.{all-list, each-list, all-map, each-map, over-map}
 use Rattle.table.proofs.Rows.{Apart, valueOf, gives, given, pair-path}
 use Rattle.table.proofs.Good.{key-size, whole-key, key-tells}
 use Rattle.table.proofs.Refusals.{first-zero}

@@ -21,3 +21,13 @@ collect (suc n) g = collect n g ++ g n
 -- l with v in the place of its elements from a on
 abbrev pub splice : {A : Type 0} → List A → ℕ → List A → List A
 splice l a v = take a l ++ (v ++ drop (a + length v) l)
+
+-- Q holds of every element
+abbrev pub All : {A : Type 0} → (A → Type 0) → List A → Type 0
+All Q [] = Unit {0}
+All Q (a ∷ l) = Q a × All Q l
+
+-- R holds of every two, the earlier first
+abbrev pub Each : {A : Type 0} → (A → A → Type 0) → List A → Type 0
+Each R [] = Unit {0}
+Each R (a ∷ l) = All (R a) l × Each R l

@@ -1,17 +1,13 @@
 use borrow.Author.Needs.{needs}
 use native.Mathlib.Omega.{arith}
-use mathlib.Core.Path.{_≡_, refl, sym, _∙_}
+use mathlib.Core.Path.{_≡_, refl}
 use mathlib.Core.List.{[]}
-use Prim.Native.Nat.{ℕ, suc, _+_, _-_, _≤_}
-use lib.ListN.{length}
+use Prim.Native.Nat.{_+_, _-_, _≤_}
 use Rattle.table.specs.Heads.{settings, table}
 use Rattle.enter.specs.Slots.{rowsTo, Counts}
 use Rattle.enter.proofs.Slots.{news-none, rows-none, count-more, count-few, counts-at}
 use Rattle.enter.proofs.shares.count_new.Statement.{statement}
 use Rattle.enter.proofs.shares.count_new.Tie as tie
-use Rattle.enter.proofs.shares.count_new.Reads as reads
-use Rattle.enter.proofs.shares.count_new.Lts as lts
-use Rattle.enter.proofs.shares.new_in_slot.Reads as new-in-slot-reads
 
 abbrev Inv-loop : tie.InvT-loop
 Inv-loop head keys index weights coords n count₀ slot₀ count slot = (slot ≤ n) × (n ≡ head .d + 1) × (count ≤ slot) × Counts (settings head) (table head keys [] index) (λ v. rowsTo (head .d) weights coords v slot) count

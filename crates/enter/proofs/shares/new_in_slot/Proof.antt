@@ -1,14 +1,10 @@
-use native.Mathlib.Omega.{arith}
 use mathlib.Core.Path.{refl}
 use lib.IntN.{pos, _*ℤ_}
-use lib.ListN.{length, getD}
+use lib.ListN.{getD}
 use Rattle.enter.proofs.Slots.{slot-none, slot-one, news-none, news-one, kept-size}
 use borrow.Author.Needs.{needs}
 use Rattle.enter.proofs.shares.new_in_slot.Statement.{statement}
 use Rattle.enter.proofs.shares.new_in_slot.Tie as tie
-use Rattle.enter.proofs.shares.new_in_slot.Reads as reads
-use Rattle.enter.proofs.shares.new_in_slot.Lts as lts
-use Rattle.pour.proofs.is_new.Reads as is-new-reads
 
 -- src/shares.rt:19:8
 mul-if1 : tie.Need-mul-if1

@@ -1,8 +1,7 @@
 use borrow.Author.Needs.{needs}
 use native.Mathlib.Omega.{arith}
-use mathlib.Core.Path.{_≡_, refl, sym, ap, subst, _∙_}
-use mathlib.Core.List.{[]}
-use Prim.Native.Nat.{ℕ, suc, _+_, _-_, _≤_}
+use mathlib.Core.Path.{_≡_, refl, sym, subst, _∙_}
+use Prim.Native.Nat.{suc, _+_, _-_, _≤_}
 use lib.ListN.{length}
 use mir.Syntax.{w32}
 use lib.IntN.{ℤ}
@@ -11,13 +10,10 @@ use mir.Facts.{toZ-ofZ}
 use Rattle.table.specs.Heads.{settings, stored, table}
 use Rattle.table.specs.Pour.{pour}
 use Rattle.enter.specs.Slots.{rowsTo, Pouring}
-use Rattle.table.proofs.Turns.{pour-turn, holds-of}
+use Rattle.table.proofs.Turns.{pour-turn}
 use Rattle.enter.proofs.Slots.{pour-none, rows-none, rows-more, slot-pourable, ended}
 use Rattle.enter.proofs.shares.pour_shares.Statement.{statement}
 use Rattle.enter.proofs.shares.pour_shares.Tie as tie
-use Rattle.enter.proofs.shares.pour_shares.Reads as reads
-use Rattle.enter.proofs.shares.pour_shares.Lts as lts
-use Rattle.enter.proofs.shares.pour_slot.Reads as pour-slot-reads
 
 abbrev Inv-loop : tie.InvT-loop
 Inv-loop head keys₀ sums₀ index₀ weights coords value n points₀ slot₀ keys sums index points slot =

@@ -1,26 +1,20 @@
 use native.Mathlib.Omega.{arith}
-use mathlib.Core.Path.{_≡_, refl, sym, ap, _∙_}
-use Prim.Native.Nat.{ℕ, _+_, _*_, _-_, _≤_}
+use mathlib.Core.Path.{_≡_, refl, ap, _∙_}
+use Prim.Native.Nat.{_+_, _*_, _-_}
 use lib.IntN.{ℤ, pos, _*ℤ_}
-use lib.ListN.{length, getD, take, drop}
+use lib.ListN.{getD, take, drop}
 use mathlib.Core.List.{[], _∷_}
 use mir.Syntax.{w64}
 use mir.Val.{SFits, toZ, ofZ}
 use mir.Facts.{toZ-ofZ}
 use Rattle.whole.proofs.Parts.{zin}
 use Rattle.whole.proofs.Readings.{zlow, zeq, zfits}
-use Rattle.table.specs.Table.{Table, Row}
-use Rattle.table.specs.Heads.{Holds}
 use Rattle.enter.specs.Slots.{slotRows}
 use Rattle.table.proofs.Turns.{holds-at, holds-same}
 use Rattle.enter.proofs.Slots.{slot-none, slot-one, pour-none, pour-one, one-addable}
 use borrow.Author.Needs.{needs}
 use Rattle.enter.proofs.shares.pour_slot.Statement.{statement}
 use Rattle.enter.proofs.shares.pour_slot.Tie as tie
-use Rattle.enter.proofs.shares.pour_slot.Reads as reads
-use Rattle.enter.proofs.shares.pour_slot.Lts as lts
-use Rattle.enter.proofs.shares.times.Reads as times-reads
-use Rattle.pour.proofs.add_row.Reads as add-row-reads
 
 -- src/shares.rt:57:18
 mul-weight : tie.Need-mul-weight
@@ -49,7 +43,7 @@ cast-mass c = let l = c .before .before .before .before .before .pre .0 .arrays 
 
 -- src/shares.rt:64:9
 times-requires : tie.Need-times-requires
-times-requires c κs = let f = c .before .before .before .before .before .fits .value in (c .before .before .before .before .before .pre .0 .arrays .light (c .before .before .before .before .before .args .slot), rw (toZ-ofZ f) (c .before .before .before .before .before .pre .0 .fair))
+times-requires c κs = let f = c .before .before .before .before .before .fits .value in (omega (arith, c .before .before .before .before .before .pre .0 .arrays .light (c .before .before .before .before .before .args .slot)), rw (toZ-ofZ f) (c .before .before .before .before .before .pre .0 .fair))
 
 -- src/shares.rt:65:46
 mul-add-row : tie.Need-mul-add-row

@@ -7,8 +7,6 @@ use lib.IntN.{pos, _*ℤ_}
 use borrow.Author.Needs.{needs}
 use Rattle.enter.proofs.shares.times.Statement.{statement}
 use Rattle.enter.proofs.shares.times.Tie as tie
-use Rattle.enter.proofs.shares.times.Reads as reads
-use Rattle.enter.proofs.shares.times.Lts as lts
 
 -- the product is small
 product : (c : tie.Start) → Abs≤ (pos (c .args .weight) *ℤ c .args .value) 384000000

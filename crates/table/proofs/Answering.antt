@@ -1,4 +1,4 @@
--- What a fresh call answers, by the tests of its settings and of the lengths of its slices.
+-- What a fresh call answers, by the tests that the code has made of its settings and of the lengths of its slices.
 use mathlib.Core.Path.{_≡_, refl, ap, sym, subst, _∙_}
 use mathlib.Core.Bool.{Bool, true, false, not}
 use mathlib.Core.List.{List}
@@ -12,6 +12,7 @@ use Rattle.table.specs.Table.{Settings, Table}
 use Rattle.table.specs.Calls.{ranged, fits, lent, fresh, freshRefusal, afterFresh}
 use Rattle.table.specs.Heads.{headOf, Answers}
 use Rattle.table.proofs.Soundness.{to-shape}
+use Rattle.table.proofs.Calls.{fresh-done, fresh-refused}
 
 -- a test that the code has made of b, passed or failed
 pub passed : {t : Bool} (b : Bool) → t ≡ b → not t ≡ false → b ≡ true
@@ -42,16 +43,8 @@ module _ (c : Settings) (keys sums : List ℤ) (index : List ℕ) where
     index-are = o ∙ ap (λ (t : Table). t .index) (sym a);
   }
 
-  left-as-given : (x : ℕ) → freshRefusal c given ≡ suc x → afterFresh c given ≡ given
-  unfolding afterFresh
-  left-as-given x e = rw (e, afterFresh) refl
-
-  cleared : freshRefusal c given ≡ 0 → afterFresh c given ≡ fresh c
-  unfolding afterFresh
-  cleared e = rw (e, afterFresh) refl
-
   refused : (x : ℕ) → freshRefusal c given ≡ suc x → Fresh (suc x) keys sums index
-  refused x e = answered (suc x) given e (left-as-given x e) refl refl refl refl
+  refused x e = answered (suc x) given e (fresh-refused c given x e) refl refl refl refl
 
   pub fresh-one : ranged c ≡ false → Fresh settings-out-of-range keys sums index
   unfolding freshRefusal first
@@ -71,7 +64,7 @@ module _ (c : Settings) (keys sums : List ℤ) (index : List ℕ) where
   fresh-made e f p q o =
       let z = none e f in
       let h = to-shape c given (T-of f) in
-      answered 0 (fresh c) z (cleared z) refl
+      answered 0 (fresh c) z (fresh-done c given z) refl
       (p ∙ ap (λ (n : ℕ). replicate n (pos 0)) (h .keys))
       (q ∙ ap (λ (n : ℕ). replicate n (pos 0)) (h .sums))
       (o ∙ ap (λ (n : ℕ). replicate n 0) (h .index))

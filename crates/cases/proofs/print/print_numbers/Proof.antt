@@ -3,8 +3,8 @@ use borrow.Author.Needs.{needs}
 use mathlib.Core.Path.{_≡_, refl}
 use Prim.Native.Nat.{_≤_, _-_}
 use lib.ListN.{length}
-use Rattle.cases.proofs.print_numbers.Statement.{statement}
-use Rattle.cases.proofs.print_numbers.Tie as tie
+use Rattle.cases.proofs.print.print_numbers.Statement.{statement}
+use Rattle.cases.proofs.print.print_numbers.Tie as tie
 
 abbrev Inv-loop : tie.InvT-loop
 Inv-loop xs n i₀ i = (i ≤ n) × (n ≡ length xs)

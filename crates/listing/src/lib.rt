@@ -1,0 +1,28 @@
+// The listing: the point numbers of a table in the order of their keys. What a listing is, and what
+// the call leaves, stands in specs/; that there is one listing of a table, in proofs/.
+ghost use Rattle.table.specs.Heads.{settings, table};
+ghost use Rattle.listing.specs.Listing.{Lists};
+
+mod compare;
+mod fill;
+mod merge;
+mod sort;
+
+use crate::fill::fill;
+
+// List: refusals 1, 2, 3. Accepted, the list has the point numbers ordered by coordinate 0, then 1 and
+// so on, ascending, then 0 in the rest; refused, it is left as it was.
+pub fn list(head: table::Head, keys: &[i32], sums: &[i64], index: &[u16], list: &mut [u16]) -> u8
+    ensures { λ r. ⌜
+        (let t = table head (now (keys .entry)) (now (sums .entry)) (now (index .entry)) in
+        Lists (settings head) t (now (list .entry)) r (now (list .exit)))
+        ⌝ }
+{
+    let more = list.len() == head.capacity;
+    let number = soundness::refusal_of(head, keys, sums, index, more);
+    if number != 0 {
+        return number;
+    }
+    fill(keys, head.d, head.points, list);
+    0
+}

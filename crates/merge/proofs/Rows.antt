@@ -1,0 +1,128 @@
+-- The source's rows one after the other: those of the source's table, each in its place, counted and poured.
+use mathlib.Core.Path.{_≡_, refl, sym, ap, ap₂, subst, _∙_}
+use mathlib.Core.Bool.{Bool, true, false, cond}
+use mathlib.Core.List.{List, [], _∷_, _++_}
+use Prim.Native.Nat.{ℕ, zero, suc, _+_, _*_, _-_, _≤_, _<_}
+use native.Mathlib.Nat.{le-refl, mul-le-mul}
+use native.Mathlib.Omega.{arith}
+use lib.Dec.{eqb}
+use lib.IntN.{ℤ}
+use lib.ListN.{length, take, drop}
+use Rattle.whole.specs.Lists.{at, tab}
+use Rattle.table.specs.declared.Head.{Head}
+use Rattle.table.specs.Table.{Settings, Table, Row, rows, found}
+use Rattle.table.specs.Pour.{add, pour, news}
+use Rattle.table.specs.Heads.{settings, stored, table, Holds}
+use Rattle.table.specs.Inner.{Addable, InTurn}
+use Rattle.table.proofs.Lists.{tab-snoc, tab-parts}
+use Rattle.table.proofs.Pouring.{news-snoc}
+use Rattle.table.proofs.Turns.{pour-turn, holds-of, holds-at}
+use Rattle.pour.specs.Inner.{oneIfNew}
+use Rattle.index.specs.Keys.{keyAt}
+use Rattle.index.specs.Search.{entryAt, search}
+use Rattle.index.proofs.Equality.{keyAt-length, key-part}
+use Rattle.merge.specs.Source.{sourceRow, firstRows, Stretch, Stretches}
+
+-- all of them are those of the table, where its dimension is d
+pub rows-all : (d : ℕ) (b : Settings) (s : Table) → d ≡ b .d → rows b s ≡ firstRows d (s .keys) (s .sums) (s .m)
+unfolding rows firstRows
+rows-all d b s e = ap (λ (d : ℕ). tab (s .m) (sourceRow d (s .keys) (s .sums))) (sym e)
+
+pub stretch-of : (d : ℕ) (keys : List ℤ) (m i : ℕ) → Stretches d keys m → i < m → Stretch d keys i
+stretch-of d keys m i L l = record { d-most = L .d-most; few = omega (arith, L .few); inside = omega (arith, L .inside, mul-le-mul (le-refl d) l) }
+
+-- the stretch of row i is its key
+pub stretch-is : (d : ℕ) (keys : List ℤ) (i : ℕ) → Stretch d keys i → take (d * i + d - d * i) (drop (d * i) keys) ≡ keyAt d keys i
+stretch-is d keys i L = key-part d keys i (L .inside)
+
+pub stretch-size : (d : ℕ) (keys : List ℤ) (i : ℕ) → Stretch d keys i → length (take (d * i + d - d * i) (drop (d * i) keys)) ≡ d
+stretch-size d keys i L = ap length (stretch-is d keys i L) ∙ keyAt-length d keys i
+
+-- row i as a function lends it on: from its stretch, and with m and v for its pair
+module _ (c : Settings) (t : Table) (keys sums : List ℤ) (i : ℕ) (m v : ℤ) (L : Stretch (c .d) keys i) (p : m ≡ at sums (2 * i)) (q : v ≡ at sums (2 * i + 1)) where
+  abbrev lent : Row
+  lent = record { key = take (c .d * i + c .d - c .d * i) (drop (c .d * i) keys); mass = m; value = v }
+
+  row-is : lent ≡ sourceRow (c .d) keys sums i
+  row-is = λ j. record { key = stretch-is (c .d) keys i L j; mass = p j; value = q j }
+
+  pub row-lent : Addable c t (sourceRow (c .d) keys sums i) → Addable c t lent
+  row-lent A = subst (Addable c t) (sym row-is) A
+
+  pub row-added : {points : ℕ} {keys′ sums′ : List ℤ} {index′ : List ℕ} → Holds (add c t lent) points keys′ sums′ index′ → Holds (add c t (sourceRow (c .d) keys sums i)) points keys′ sums′ index′
+  row-added H = holds-at H (ap (add c t) (sym row-is))
+
+module _ (d : ℕ) (keys sums : List ℤ) where
+  rows-none : firstRows d keys sums 0 ≡ []
+  unfolding firstRows tab
+  rows-none = refl
+
+  rows-more : (i : ℕ) → firstRows d keys sums (i + 1) ≡ firstRows d keys sums i ++ (sourceRow d keys sums i ∷ [])
+  unfolding firstRows
+  rows-more i = let e : i + 1 ≡ suc i = omega arith in ap (firstRows d keys sums) e ∙ tab-snoc i (sourceRow d keys sums)
+
+  -- ---- pouring
+  pub poured-none : (c : Settings) (t : Table) → t ≡ pour c t (firstRows d keys sums 0)
+  unfolding pour
+  poured-none c t = sym (ap (pour c t) rows-none)
+
+  pub row-addable : (c : Settings) (t u : Table) (m i : ℕ) → i < m → InTurn c t (firstRows d keys sums m) → u ≡ pour c t (firstRows d keys sums i) → Addable c u (sourceRow d keys sums i)
+  unfolding firstRows
+  row-addable c t u m i l Q e = subst (λ (u : Table). Addable c u (sourceRow d keys sums i)) (sym e)
+      (Q .each (firstRows d keys sums i) (tab (m - suc i) (λ j. sourceRow d keys sums (i + suc j))) (sourceRow d keys sums i) (tab-parts m (sourceRow d keys sums) i l))
+
+  -- ---- counting
+  pub count-none : (c : Settings) (t : Table) → 0 ≡ news c t (firstRows d keys sums 0)
+  unfolding news
+  count-none c t = sym (ap (news c t) rows-none)
+
+  pub count-all : (c : Settings) (t : Table) (n i m : ℕ) → i ≡ m → n ≡ news c t (firstRows d keys sums i) → n ≡ news c t (firstRows d keys sums m)
+  count-all c t n i m q e = e ∙ ap (λ (k : ℕ). news c t (firstRows d keys sums k)) q
+
+  pub count-more : (c : Settings) (t : Table) (i n k : ℕ) → n ≡ news c t (firstRows d keys sums i) → k ≡ oneIfNew c (t .keys) (t .index) (keyAt d keys i)
+      → n + k ≡ news c t (firstRows d keys sums (i + 1))
+  count-more c t i n k e q = ap₂ _+_ e q ∙ sym (ap (news c t) (rows-more i) ∙ news-snoc c t (firstRows d keys sums i) (sourceRow d keys sums i))
+
+-- one row more is poured
+pub row-turn : (h : Head) (t : Table) (d : ℕ) (ks ss : List ℤ) (i points points′ : ℕ) (keys keys′ sums sums′ : List ℤ) (index index′ : List ℕ)
+    → stored h points keys sums index ≡ pour (settings h) t (firstRows d ks ss i) → Holds (add (settings h) (stored h points keys sums index) (sourceRow d ks ss i)) points′ keys′ sums′ index′
+    → stored h points′ keys′ sums′ index′ ≡ pour (settings h) t (firstRows d ks ss (i + 1))
+unfolding pour
+row-turn h t d ks ss i points points′ keys keys′ sums sums′ index index′ e H =
+    pour-turn (settings h) h t (firstRows d ks ss i) (sourceRow d ks ss i ∷ []) (firstRows d ks ss (i + 1)) points points′ keys keys′ sums sums′ index index′ e (holds-at H refl) (rows-more d ks ss i)
+
+-- all rows are poured
+pub ended : (h : Head) (t : Table) (d : ℕ) (ks ss : List ℤ) (i m : ℕ) → i ≡ m → (points : ℕ) (keys sums : List ℤ) (index : List ℕ)
+    → stored h points keys sums index ≡ pour (settings h) t (firstRows d ks ss i) → Holds (pour (settings h) t (firstRows d ks ss m)) points keys sums index
+ended h t d ks ss i m q points keys sums index e = holds-of h (pour (settings h) t (firstRows d ks ss m)) points keys sums index (e ∙ ap (λ (k : ℕ). pour (settings h) t (firstRows d ks ss k)) q)
+
+-- at most one more is counted
+pub one-most : (c : Settings) (keys : List ℤ) (index : List ℕ) (key : List ℤ) (k : ℕ) → k ≡ oneIfNew c keys index key → k ≤ 1
+one-most c keys index key k e = go (eqb (entryAt index (search (c .C) (keyAt (c .d) keys) (entryAt index) key)) 0) e
+  where
+    go : (b : Bool) → k ≡ cond b 1 0 → k ≤ 1
+    go true e = omega (arith, e)
+    go false e = omega (arith, e)
+
+-- no more are new than there are
+pub news-few : (c : Settings) (t : Table) (d : ℕ) (keys sums : List ℤ) (m n : ℕ) → n ≡ news c t (firstRows d keys sums m) → n ≤ m
+unfolding firstRows tab news
+news-few c t d keys sums m n e = omega (arith, e, go m (sourceRow d keys sums))
+  where
+    one : (b : Bool) → cond b 1 0 ≤ 1
+    one true = omega arith
+    one false = omega arith
+
+    go : (m : ℕ) (f : ℕ → Row) → news c t (tab m f) ≤ m
+    go zero f = omega arith
+    go (suc m) f = omega (arith, one (eqb (found c t (f 0 .key)) 0), go m (λ i. f (suc i)))
+
+-- which rows are new does not depend on any pair
+pub news-keys : (h : Head) (keys sums : List ℤ) (index : List ℕ) (d : ℕ) (ks ss : List ℤ) (m : ℕ)
+    → news (settings h) (table h keys [] index) (firstRows d ks [] m) ≡ news (settings h) (table h keys sums index) (firstRows d ks ss m)
+unfolding firstRows tab news
+news-keys h keys sums index d ks ss m = go m (sourceRow d ks []) (sourceRow d ks ss) (λ i. refl)
+  where
+    go : (m : ℕ) (f g : ℕ → Row) → ((i : ℕ) → f i .key ≡ g i .key) → news (settings h) (table h keys [] index) (tab m f) ≡ news (settings h) (table h keys sums index) (tab m g)
+    go zero f g e = refl
+    go (suc m) f g e = ap₂ (λ (k : List ℤ) (n : ℕ). cond (eqb (found (settings h) (table h keys sums index) k) 0) 1 0 + n) (e 0) (go m (λ i. f (suc i)) (λ i. g (suc i)) (λ i. e (suc i)))

@@ -1,0 +1,74 @@
+// Merging: a source table is read, and each of its pairs is added to a target table in lent memory,
+// all or nothing. Both are judged before anything is written.
+ghost use mathlib.Core.Path.{_≡_};
+ghost use Rattle.table.specs.Calls.{mergeRefusal, afterMerge};
+ghost use Rattle.table.specs.Heads.{settings, table, Answers};
+
+mod judging;
+mod source;
+
+use crate::judging::refusal_of;
+use crate::source::pour_rows;
+use table::Answer;
+use table::Head;
+
+// The head of the same settings with these counts.
+fn with_counts(head: Head, readings: usize, points: usize) -> Head
+    ensures { λ r. ⌜ r ≡ record { d = head .d; fineness = head .fineness; capacity = head .capacity; readings = readings; points = points } ⌝ }
+{
+    Head {
+        d: head.d,
+        fineness: head.fineness,
+        capacity: head.capacity,
+        readings,
+        points,
+    }
+}
+
+// The number 0 and the head of the target with the source in it, or the number of the first refusal
+// that is met and the head as given. Capacities may differ.
+pub fn merge(
+    head: Head,
+    keys: &mut [i32],
+    sums: &mut [i64],
+    index: &mut [u16],
+    source: Head,
+    source_keys: &[i32],
+    source_sums: &[i64],
+    source_index: &[u16],
+) -> Answer
+    ensures { λ r. ⌜
+        (let c = settings head in
+        let b = settings source in
+        let t = table head (now (keys .entry)) (now (sums .entry)) (now (index .entry)) in
+        let s = table source (now («source_keys» .entry)) (now («source_sums» .entry)) (now («source_index» .entry)) in
+        Answers c (mergeRefusal c t b s) (afterMerge c t b s) (r .number) (r .head) (now (keys .exit)) (now (sums .exit)) (now (index .exit)))
+        ⌝ }
+{
+    let number = refusal_of(
+        head,
+        keys,
+        sums,
+        index,
+        source,
+        source_keys,
+        source_sums,
+        source_index,
+    );
+    if number != 0 {
+        return Answer { number, head };
+    }
+    let points = pour_rows(
+        head,
+        keys,
+        sums,
+        index,
+        source_keys,
+        source_sums,
+        source.points,
+    );
+    Answer {
+        number: 0,
+        head: with_counts(head, head.readings + source.readings, points),
+    }
+}
