@@ -15,8 +15,8 @@ use Rattle.whole.proofs.Lists.{tab-is, length-tab}
 use Rattle.simplex.specs.Slots.{slot}
 use Rattle.table.specs.Table.{Settings, Table, Row, found}
 use Rattle.table.specs.Pour.{pour, add, news}
-use Rattle.table.specs.Inner.{Addable, InTurn}
-use Rattle.enter.specs.Slots.{shareOf, slotRows, rowsTo, Counts}
+use Rattle.table.specs.Inner.{Addable, InTurn, weighedRow}
+use Rattle.enter.specs.Slots.{slotRows, rowsTo, Counts}
 use Rattle.table.proofs.Lists.{take-tab, collect-parts}
 use Rattle.table.proofs.Pouring.{news-append}
 use Rattle.table.proofs.Turns.{in-turn-part, holds-of}
@@ -96,9 +96,9 @@ slot-few c t d ws cs v k = go (eqb (getD ws k 0) 0)
     one true = omega arith
     one false = omega arith
 
-    go : (b : Bool) → news c t (map (shareOf d v) (cond b [] (p ∷ []))) ≤ 1
+    go : (b : Bool) → news c t (map (weighedRow d v) (cond b [] (p ∷ []))) ≤ 1
     go true = omega arith
-    go false = one (eqb (found c t (shareOf d v p .key)) 0)
+    go false = one (eqb (found c t (weighedRow d v p .key)) 0)
 
 -- one slot more is counted
 pub count-more : (c : Settings) (t : Table) (d : ℕ) (ws : List ℕ) (cs : List ℤ) (k a b : ℕ) → Counts c t (λ v. rowsTo d ws cs v k) a → Counts c t (λ v. slotRows d ws cs v k) b

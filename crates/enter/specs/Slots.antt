@@ -2,8 +2,8 @@
 use mathlib.Core.Path.{_≡_}
 use mathlib.Core.List.{List, map}
 use Prim.Native.Nat.{ℕ, _*_, _≤_}
-use lib.IntN.{ℤ, pos, natAbs, _*ℤ_}
-use lib.ListN.{length, take, getD}
+use lib.IntN.{ℤ, natAbs}
+use lib.ListN.{length, getD}
 use Rattle.whole.specs.Lists.{collect}
 use Rattle.lattice.specs.Limits.{most-value, most-W}
 use Rattle.simplex.specs.Slots.{slot}
@@ -11,15 +11,11 @@ use Rattle.index.specs.Search.{entryAt}
 use Rattle.index.specs.Indexed.{Sparse}
 use Rattle.table.specs.Table.{Settings, Table, Row}
 use Rattle.table.specs.Pour.{news}
-use Rattle.table.specs.Inner.{Ranged, InTurn}
+use Rattle.table.specs.Inner.{Ranged, weighedRow, InTurn}
 
--- the row of a point with its weight, for the value v
-abbrev pub shareOf : ℕ → ℤ → List ℤ × ℕ → Row
-shareOf d v p = record { key = take d (p .0); mass = pos (p .1); value = pos (p .1) *ℤ v }
-
--- those of slot k, and of the slots before n
+-- the rows of slot k, and of the slots before n
 unfoldable pub slotRows : ℕ → List ℕ → List ℤ → ℤ → ℕ → List Row
-slotRows d weights coords v k = map (shareOf d v) (slot d weights coords k)
+slotRows d weights coords v k = map (weighedRow d v) (slot d weights coords k)
 
 unfoldable pub rowsTo : ℕ → List ℕ → List ℤ → ℤ → ℕ → List Row
 rowsTo d weights coords v n = collect n (slotRows d weights coords v)

@@ -2,11 +2,15 @@
 use mathlib.Core.Path.{_≡_, refl, sym, ap, ap₂, subst, _∙_}
 use mathlib.Core.Bool.{Bool, true, false, cond}
 use mathlib.Core.List.{List, [], _∷_, _++_}
-use Prim.Native.Nat.{ℕ, zero, suc, _+_, _*_, _-_, _≤_, _<_}
+use Prim.Native.Nat.{ℕ, zero, suc, _+_, _*_, _-_, _^_, _≤_, _<_}
 use native.Mathlib.Nat.{le-refl, mul-le-mul}
 use native.Mathlib.Omega.{arith}
 use lib.Dec.{eqb}
 use lib.IntN.{ℤ}
+use lib.Signed.{mag}
+use mir.Syntax.{w64}
+use mir.Val.{toZ, ofZ}
+use mir.Facts.{toZ-ofZ}
 use lib.ListN.{length, take, drop}
 use Rattle.whole.specs.Lists.{at, tab}
 use Rattle.table.specs.declared.Head.{Head}
@@ -37,6 +41,10 @@ stretch-is d keys i L = key-part d keys i (L .inside)
 
 pub stretch-size : (d : ℕ) (keys : List ℤ) (i : ℕ) → Stretch d keys i → length (take (d * i + d - d * i) (drop (d * i) keys)) ≡ d
 stretch-size d keys i L = ap length (stretch-is d keys i L) ∙ keyAt-length d keys i
+
+-- a number that was read from a slice of 64-bit numbers is itself
+pub back64 : {z : ℤ} → mag z < 2 ^ 63 → toZ w64 (ofZ w64 z) ≡ z
+back64 h = toZ-ofZ (record { sfits = h })
 
 -- row i as a function lends it on: from its stretch, and with m and v for its pair
 module _ (c : Settings) (t : Table) (keys sums : List ℤ) (i : ℕ) (m v : ℤ) (L : Stretch (c .d) keys i) (p : m ≡ at sums (2 * i)) (q : v ≡ at sums (2 * i + 1)) where

@@ -10,19 +10,15 @@ use native.Mathlib.Decide.{ℕ-discrete}
 use native.Mathlib.Omega.{arith}
 use lib.IntN.{ℤ, _+ℤ_}
 use lib.Dec.{eqb, eqb·suc-zero}
-use lib.ListN.{length}
 use Rattle.whole.specs.Lists.{All}
 use Rattle.whole.specs.Sum.{over}
 use Rattle.whole.proofs.Lists.{length-tab, getD-tab}
 use Rattle.index.specs.Indexed.{Indexed}
-use Rattle.index.specs.Keys.{keyAt}
-use Rattle.index.specs.Search.{entryAt, search, Searchable}
 use Rattle.index.proofs.Finding.{search-lt, found-low, found-key, key-found, new-point-found}
-use Rattle.index.proofs.Steps.{searchable}
 use Rattle.table.specs.Table.{Settings, Table, Row, key, row, rows, entry, seek, found}
 use Rattle.table.specs.Sound.{Good}
 use Rattle.table.specs.Pour.{append, raise, addAt, add, news}
-use Rattle.table.specs.Inner.{Ranged, Kept}
+use Rattle.table.specs.Inner.{Kept}
 use Rattle.table.proofs.Lists.{over-snoc, over-set}
 use Rattle.table.proofs.Rows.{join, Additive}
 use Rattle.table.proofs.Store.{shape-append, key-old, key-new, row-old, row-new, rows-append, entry-at, entry-else, shape-raise, row-raised, row-else, rows-raise}
@@ -41,14 +37,6 @@ module _ (c : Settings) (some : 0 < c .C) (t : Table) (K : Kept c t) where
 
   pub finds-key : (k : List ℤ) (i : ℕ) → i < t .m → key c t i ≡ k → found c t k ≡ suc i
   finds-key = key-found (c .C) (t .m) (key c t) (entry t) some (K .indexed)
-
--- ---- the memory of a table may be searched for a key of d coordinates
-pub kept-searchable : (c : Settings) (t : Table) (k : List ℤ) → Ranged c → Kept c t → length k ≡ c .d → Searchable (c .C) (t .keys) (t .index) k
-kept-searchable c t k G K e = searchable (c .C) (t .m) (t .keys) (t .index) k (G .C-least) (G .C-most) (K .shape .index) (rw e (K .shape .keys)) (K .indexed .sparse)
-
--- and the search ends at the table's own place
-pub sought-seek : (c : Settings) (t : Table) (k : List ℤ) → length k ≡ c .d → search (c .C) (keyAt (length k) (t .keys)) (entryAt (t .index)) k ≡ seek c t k
-sought-seek c t k e = ap (λ (d : ℕ). search (c .C) (keyAt d (t .keys)) (entryAt (t .index)) k) e
 
 -- ---- one row more
 module _ (c : Settings) (some : 0 < c .C) (t : Table) (K : Kept c t) (r : Row) (R : Good (c .d) r) (room : found c t (r .key) ≡ 0 → t .m < c .C) where

@@ -1,3 +1,4 @@
+pub mod Worked
 pub mod Lists
 pub mod Rows
 pub mod Store

@@ -6,7 +6,7 @@ use Prim.Native.Nat.{ℕ, zero, suc, _+_, _-_, _<_}
 use native.Mathlib.Nat.{not-suc-le-zero, le-of-suc-le-suc, eq-or-lt-of-le}
 use native.Mathlib.Omega.{arith}
 use lib.IntN.{ℤ, +ℤ-idr, +ℤ-assoc, _+ℤ_}
-use lib.ListN.{length, getD, set, take, drop}
+use lib.ListN.{length, getD, set, take}
 use Rattle.whole.specs.Sum.{sum, over}
 use Rattle.whole.specs.Lists.{tab, collect, All, Each}
 use Rattle.whole.proofs.Linear.{on, difs, ints}
@@ -63,12 +63,6 @@ module _ {A : Type 0} where
         t .0 ++ g n,
         ap (λ (l : List A). l ++ g n) (t .1) ∙ append-assoc (collect k g) (g k ++ t .0) (g n) ∙ ap (λ (l : List A). collect k g ++ l) (append-assoc (g k) (t .0) (g n)),
       )
-
-  -- a list cut at one of its places
-  pub list-parts : (l : List A) (j : ℕ) (a : A) → j < length l → l ≡ take j l ++ (getD l j a ∷ drop (suc j) l)
-  list-parts [] j a h = absurd (not-suc-le-zero h)
-  list-parts (b ∷ l) zero a h = refl
-  list-parts (b ∷ l) (suc j) a h = ap (λ (l : List A). b ∷ l) (list-parts l j a (le-of-suc-le-suc h))
 
   -- ---- each element has the property Q
   pub all-tab : (Q : A → Type 0) (n : ℕ) (f : ℕ → A) → ((i : ℕ) → i < n → Q (f i)) → All Q (tab n f)

@@ -8,8 +8,6 @@ use native.Mathlib.Omega.{arith}
 use lib.IntN.{ℤ, +ℤ-idr, +ℤ-assoc, pos, _+ℤ_}
 use lib.Signed.{_≤ℤ_, ≤ℤ-refl}
 use lib.Dec.{eqb}
-use lib.ListN.{length, getD, take}
-use lib.Seq.{take-suc}
 use Rattle.whole.specs.Lists.{All, Each}
 use Rattle.whole.specs.Sum.{over}
 use Rattle.whole.proofs.Linear.{on, difs, ints}
@@ -36,9 +34,6 @@ pour-none c t = refl
 pub pour-snoc : (c : Settings) (t : Table) (a : List Row) (r : Row) → pour c t (a ++ (r ∷ [])) ≡ add c (pour c t a) r
 unfolding pour
 pour-snoc c t a r = pour-append c t a (r ∷ [])
-
-pub pour-step : (c : Settings) (t : Table) (rs : List Row) (j : ℕ) (r : Row) → j < length rs → pour c t (take (suc j) rs) ≡ add c (pour c t (take j rs)) (getD rs j r)
-pour-step c t rs j r l = ap (pour c t) (take-suc rs j r l) ∙ pour-snoc c t (take j rs) (getD rs j r)
 
 pub news-append : (c : Settings) (t : Table) (a b : List Row) → news c t (a ++ b) ≡ news c t a + news c t b
 unfolding news
@@ -97,9 +92,6 @@ masses-low d (r ∷ rs) G = lin (r .mass) (over rs massOf) (G .0 .some) (masses-
 -- after the first few of them
 before-all : (c : Settings) (t : Table) (a b : List Row) → Pourable c t (a ++ b) → Poured c t a
 before-all c t a b P = poured c (P .ranged .C-least) a t (P .kept) (all-before (Good (c .d)) a b (P .good)) (each-before Apart a b (P .apart)) (omega (arith, news-before c t a b, P .room))
-
-pub poured-before : (c : Settings) (t : Table) (rs a b : List Row) → Pourable c t rs → rs ≡ a ++ b → Poured c t a
-poured-before c t rs a b P e = before-all c t a b (subst (Pourable c t) e P)
 
 pub poured-all : (c : Settings) (t : Table) (rs : List Row) → Pourable c t rs → Poured c t rs
 poured-all c t rs P = poured c (P .ranged .C-least) rs t (P .kept) (P .good) (P .apart) (P .room)

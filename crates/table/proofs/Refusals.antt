@@ -1,7 +1,7 @@
 -- Refusals in their order: no number is met exactly when every test passes.
 use mathlib.Core.Path.{_≡_, refl}
 use mathlib.Core.Bool.{Bool, true, false}
-use mathlib.Core.List.{List, [], _∷_}
+use mathlib.Core.List.{List, _∷_}
 use Prim.Native.Nat.{ℕ, suc}
 use native.Mathlib.Omega.{arith}
 use lib.Dec.{T}
@@ -12,16 +12,7 @@ unfolding first
 first-zero true k l e = (tt, e)
 first-zero false k l e = absurd (omega arith)
 
--- the test passes, and the next one decides
-pub first-on : (b : Bool) (k : ℕ) (l : List (Bool × ℕ)) → b ≡ true → first ((b, k) ∷ l) ≡ first l
-unfolding first
-first-on b k l e = rw e refl
-
 -- the test fails
 pub first-at : (b : Bool) (k : ℕ) (l : List (Bool × ℕ)) → b ≡ false → first ((b, k) ∷ l) ≡ k
 unfolding first
 first-at b k l e = rw e refl
-
-pub first-none : first [] ≡ 0
-unfolding first
-first-none = refl

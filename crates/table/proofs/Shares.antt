@@ -33,7 +33,7 @@ use Rattle.table.specs.Table.{Settings, Table, Row}
 use Rattle.table.specs.Sound.{Good}
 use Rattle.table.specs.Pour.{news}
 use Rattle.table.specs.Reading.{Reading, share, shares, refusal}
-use Rattle.table.specs.Inner.{Ranged, massOf}
+use Rattle.table.specs.Inner.{Ranged, massOf, weighedRow}
 use Rattle.table.proofs.Lists.{all-list, each-list, all-map, each-map, over-map}
 use Rattle.table.proofs.Rows.{Apart, valueOf, gives, given, pair-path}
 use Rattle.table.proofs.Good.{key-size, whole-key, key-tells}
@@ -162,9 +162,6 @@ module _ (c : Settings) (G : Ranged c) (r : Reading) (X : Position (c .d) (r .pl
       (all-list (λ y. Good (c .d) (share (c .d) (c .S) r y)) ps [] (λ m l. share-good (getD ps m []) (the .point m l) (the .heavy m l)))
 
 -- ---- the rows as they are made of the weighed points
-abbrev pub weighedRow : ℕ → ℤ → List ℤ × ℕ → Row
-weighedRow d v p = record { key = take d (p .0); mass = pos (p .1); value = pos (p .1) *ℤ v }
-
 pub shares-weighed : (d S : ℕ) (r : Reading) → shares d S r ≡ map (weighedRow d (r .value)) (weighed d S (r .place))
 unfolding shares weighed
 shares-weighed d S r = go (points d S (r .place))

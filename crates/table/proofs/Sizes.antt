@@ -11,8 +11,6 @@ use Rattle.table.specs.Table.{Settings, Table, Row, mass, value, row, ro
 use Rattle.table.specs.Sound.{Good}
 use Rattle.table.specs.Inner.{Addable, massOf}
 use Rattle.table.proofs.Lists.{all-tab}
-use Rattle.table.proofs.Rows.{join}
-use Rattle.table.proofs.Good.{good-join}
 use Rattle.table.proofs.Soundness.{mass-over}
 use Rattle.table.proofs.Pouring.{masses-low}
 
@@ -54,12 +52,4 @@ module _ (c : Settings) (t : Table) (r : Row) (A : Addable c t r) where
       (lin (mass t i) (over (rows c t) massOf) (r .mass) (pos (most-W * most-readings)) (mass-over c t (A .kept) i l) (A .good .some) (A .light))
     where
       lin : (x o m w : ℤ) → x ≤ℤ o → pos 1 ≤ℤ m → (o +ℤ m) ≤ℤ w → x ≤ℤ w
-      lin = on _ λ a b. on _ λ c d. on _ λ e f. on _ λ g h. simp difs (omega ints)
-
-  -- the two added
-  pub raised-small : (i : ℕ) → i < t .m → PairSmall (mass t i +ℤ r .mass) (value t i +ℤ r .value)
-  raised-small i l = good-small (c .d) (join (row c t i) r) (good-join (c .d) (row c t i) r (A .kept .good i l) (A .good))
-      (lin (mass t i) (over (rows c t) massOf) (r .mass) (pos (most-W * most-readings)) (mass-over c t (A .kept) i l) (A .light))
-    where
-      lin : (x o m w : ℤ) → x ≤ℤ o → (o +ℤ m) ≤ℤ w → (x +ℤ m) ≤ℤ w
       lin = on _ λ a b. on _ λ c d. on _ λ e f. on _ λ g h. simp difs (omega ints)

@@ -1,9 +1,10 @@
 -- The statements of specs/Theorems.antt and of specs/Heads.antt, proved.
 use mathlib.Core.Path.{refl, sym, ap, _∙_}
-use Prim.Native.Nat.{_*_}
+use Prim.Native.Nat.{_+_, _*_, _%_}
+use lib.Dec.{eqb}
 use lib.IntN.{pos}
 use native.Mathlib.Omega.{arith}
-use lib.ListN.{take}
+use lib.ListN.{length, take}
 use Rattle.whole.specs.Sum.{over}
 use Rattle.whole.specs.Lists.{tab}
 use Rattle.whole.proofs.Parts.{le-out}
@@ -12,14 +13,16 @@ use Rattle.lattice.specs.Limits.{most-W, most-readings}
 use Rattle.lattice.specs.Weight.{W}
 use Rattle.index.proofs.Finding.{gap, finds-exactly}
 use Rattle.table.specs.Table.{key, row, rows, entry, held}
-use Rattle.table.specs.Reading.{shares, entered}
-use Rattle.table.specs.Calls.{fresh, merged}
+use Rattle.table.specs.Reading.{parsed, shares, entered}
+use Rattle.table.specs.Calls.{fresh, enterAll, merged}
 use Rattle.table.specs.Heads.{AnswersOnce}
-use Rattle.table.specs.Theorems.{SearchFinds, EmptyFound, FreshSound, EnterKeeps, MergeKeeps, plus, FreshHolds, EnterAdds, MergeAdds, StoredExactly, SumsSmall}
+use Rattle.table.specs.Theorems.{SearchFinds, EmptyFound, FreshSound, EnterKeeps, EnterLeaves, MergeKeeps, plus, FreshHolds, EnterAdds, MergeAdds, StoredExactly, SumsSmall}
 use Rattle.table.proofs.Soundness.{to-ranged, to-fine, of-fine, fine-kept, mass-bound, total-most}
 use Rattle.table.proofs.Sizes.{good-small}
 use Rattle.table.proofs.Shares.{share-given}
-use Rattle.table.proofs.Keeping.{entered-adds, mergeable, merged-adds, fresh-fine}
+use Rattle.table.proofs.Keeping.{parsed-size, entered-adds, called, mergeable, merged-adds, fresh-fine}
+use Rattle.table.proofs.Entering.{enterAll-adds}
+use Rattle.table.proofs.Calls.{enter-done}
 use Rattle.table.proofs.Meaning.{held-given, stored-iff, adds-held}
 
 -- ---- searching
@@ -35,6 +38,11 @@ fresh-sound c t = of-fine c (fresh c) (fresh-fine c (to-ranged c t))
 
 pub enter-keeps : EnterKeeps
 enter-keeps c t r size U e = of-fine c (entered c t r) (entered-adds c t r size (to-fine c t U) e .fine)
+
+pub enter-leaves : EnterLeaves
+enter-leaves c t l e =
+    let A = enterAll-adds c (parsed (c .d) l) t (called c t (eqb (length l % (c .d + 2)) 0) e .fine) (parsed-size (c .d) l) in
+    rw (enter-done c t l e) (of-fine c ((enterAll c t (parsed (c .d) l)) .table) (A .fine), A .count)
 
 pub merge-keeps : MergeKeeps
 merge-keeps c t b s e = of-fine c (merged c t b s) (merged-adds c t b s (mergeable c t b s e) .fine)

@@ -2,8 +2,8 @@
 use mathlib.Core.Path.{_≡_}
 use mathlib.Core.List.{List, _∷_, _++_}
 use Prim.Native.Nat.{ℕ, _*_, _≤_, _<_}
-use lib.IntN.{ℤ, pos, _+ℤ_}
-use lib.ListN.{length}
+use lib.IntN.{ℤ, pos, _+ℤ_, _*ℤ_}
+use lib.ListN.{length, take}
 use lib.Signed.{_≤ℤ_}
 use Rattle.whole.specs.Sum.{over}
 use Rattle.lattice.specs.Limits.{most-d, most-S, most-C, most-W, most-readings}
@@ -32,6 +32,10 @@ pub record Kept (c : Settings) (t : Table) : Type 0 where
   pub shape : Shape c t
   pub indexed : Indexed (c .C) (t .m) (key c t) (entry t)
   pub good : (i : ℕ) → i < t .m → Good (c .d) (row c t i)
+
+-- the row of a point with its weight, for the value v
+abbrev pub weighedRow : ℕ → ℤ → List ℤ × ℕ → Row
+weighedRow d v p = record { key = take d (p .0); mass = pos (p .1); value = pos (p .1) *ℤ v }
 
 abbrev pub massOf : Row → ℤ
 massOf r = r .mass

@@ -6,3 +6,4 @@ pub mod Calls
 pub mod Heads
 pub mod Inner
 pub mod Theorems
+pub mod Worked

@@ -2,7 +2,7 @@
 use mathlib.Core.Path.{_≡_}
 use mathlib.Core.Logic.{_↔_}
 use mathlib.Core.List.{List}
-use Prim.Native.Nat.{ℕ, suc, _*_, _<_}
+use Prim.Native.Nat.{ℕ, suc, _+_, _*_, _<_}
 use lib.Dec.{T}
 use lib.IntN.{ℤ, pos, _+ℤ_, _*ℤ_}
 use lib.ListN.{length, take}
@@ -15,7 +15,7 @@ use Rattle.lattice.specs.Weight.{weight}
 use Rattle.table.specs.Table.{Settings, Table, key, mass, value, entry, found, held}
 use Rattle.table.specs.Sound.{sound}
 use Rattle.table.specs.Reading.{Reading, refusal, entered}
-use Rattle.table.specs.Calls.{ranged, fits, fresh, merged, mergeRefusal}
+use Rattle.table.specs.Calls.{ranged, fits, fresh, enterRefusal, enter, merged, mergeRefusal}
 
 -- settings in range, slices of their lengths, and soundness: what every call but fresh asks of a table
 pub record Usable (c : Settings) (t : Table) : Type 0 where
@@ -39,7 +39,12 @@ FreshSound = (c : Settings) → T (ranged c) → Usable c (fresh c)
 abbrev pub EnterKeeps : Type 0
 EnterKeeps = (c : Settings) (t : Table) (r : Reading) → length (r .place) ≡ suc (c .d) → Usable c t → refusal c t r ≡ 0 → Usable c (entered c t r)
 
--- and a merge keeps it.
+-- and so does a whole call of enter, which counts the readings that it took,
+abbrev pub EnterLeaves : Type 0
+EnterLeaves = (c : Settings) (t : Table) (l : List ℤ) → enterRefusal c t l ≡ 0
+    → Usable c ((enter c t l) .table) × ((enter c t l) .table .n ≡ t .n + (enter c t l) .taken)
+
+-- and a merge.
 abbrev pub MergeKeeps : Type 0
 MergeKeeps = (c : Settings) (t : Table) (b : Settings) (s : Table) → mergeRefusal c t b s ≡ 0 → Usable c (merged c t b s)
 

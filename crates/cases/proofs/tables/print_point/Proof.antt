@@ -8,91 +8,69 @@ use borrow.Author.Needs.{needs}
 use Rattle.cases.proofs.tables.print_point.Statement.{statement}
 use Rattle.cases.proofs.tables.print_point.Tie as tie
 
--- src/tables.rt:29:9
 returns : tie.Need-returns
 returns c = search needs
 
--- src/tables.rt:32:9
 returns-2 : tie.Need-returns-2
 returns-2 c = search needs
 
--- src/tables.rt:34:15
 mul-key : tie.Need-mul-key
 mul-key c = search needs
 
--- src/tables.rt:34:15
 shared-slice-copy-out-key : tie.Need-shared-slice-copy-out-key
 shared-slice-copy-out-key c = search needs
 
--- src/tables.rt:35:18
 cast-last : tie.Need-cast-last
 cast-last c = let f : SFits w32 (at (c .before .before .before .args .keys .now) (c .before .before .before .args .i)) = record { sfits = c .key .given } in zfits (search zlin depth 14) (omega (arith, zin))
 
--- src/tables.rt:35:16
 sub-last : tie.Need-sub-last
 sub-last c = let f : SFits w32 (at (c .before .before .before .args .keys .now) (c .before .before .before .args .i)) = record { sfits = c .key .given } in zfits (search zlin depth 14) (omega (arith, zin))
 
--- src/tables.rt:36:21
 mul-mass : tie.Need-mul-mass
 mul-mass c = search needs
 
--- src/tables.rt:36:16
 mul-mass-2 : tie.Need-mul-mass-2
 mul-mass-2 c = search needs
 
--- src/tables.rt:36:16
 shared-slice-copy-out-mass : tie.Need-shared-slice-copy-out-mass
 shared-slice-copy-out-mass c = search needs
 
--- src/tables.rt:37:22
 mul-value : tie.Need-mul-value
 mul-value c = search needs
 
--- src/tables.rt:37:22
 add-value : tie.Need-add-value
 add-value c = search needs
 
--- src/tables.rt:37:17
 mul-value-2 : tie.Need-mul-value-2
 mul-value-2 c = search needs
 
--- src/tables.rt:37:17
 shared-slice-copy-out-value : tie.Need-shared-slice-copy-out-value
 shared-slice-copy-out-value c = search needs
 
--- src/tables.rt:38:34
 slice-aggregate-write-all : tie.Need-slice-aggregate-write-all
 slice-aggregate-write-all c = search needs
 
--- src/tables.rt:38:5
 write-all-requires : tie.Need-write-all-requires
 write-all-requires c κs = search needs
 
--- src/tables.rt:39:5
 print-number-requires : tie.Need-print-number-requires
 print-number-requires c κs = search needs
 
--- src/tables.rt:40:5
 print-small-requires : tie.Need-print-small-requires
 print-small-requires c κs = search needs
 
--- src/tables.rt:41:5
 print-small-requires-2 : tie.Need-print-small-requires-2
 print-small-requires-2 c κs = search needs
 
--- src/tables.rt:42:5
 print-small-requires-3 : tie.Need-print-small-requires-3
 print-small-requires-3 c κs = search needs
 
--- src/tables.rt:43:34
 slice-aggregate-write-all-2 : tie.Need-slice-aggregate-write-all-2
 slice-aggregate-write-all-2 c = search needs
 
--- src/tables.rt:43:5
 write-all-requires-2 : tie.Need-write-all-requires-2
 write-all-requires-2 c κs = search needs
 
--- src/tables.rt:27:1
 returns-3 : tie.Need-returns-3
 returns-3 c = search needs
 

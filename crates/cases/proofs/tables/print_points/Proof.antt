@@ -11,43 +11,33 @@ Inv-loop keys sums order points k₀ k = (k ≤ points) × (points ≤ length or
 abbrev μ-loop : tie.MeasureT-loop
 μ-loop keys sums order points k₀ k = points - k
 
--- src/tables.rt:47:9
 returns : tie.Need-returns Inv-loop μ-loop
 returns c = search needs
 
--- src/tables.rt:49:5
 loop-holds : tie.Need-loop-holds Inv-loop μ-loop
 loop-holds c = (search needs, search needs)
 
--- src/tables.rt:50:17
 mul-i : tie.Need-mul-i Inv-loop μ-loop
 mul-i c = search needs
 
--- src/tables.rt:50:17
 shared-slice-read-i : tie.Need-shared-slice-read-i Inv-loop μ-loop
 shared-slice-read-i c = search needs
 
--- src/tables.rt:51:33
 cast-print-point : tie.Need-cast-print-point Inv-loop μ-loop
 cast-print-point c = omega (arith, c .shared-slice-known2 .given (c .before .before .loop .k))
 
--- src/tables.rt:51:9
 print-point-requires : tie.Need-print-point-requires Inv-loop μ-loop
 print-point-requires c κs = search needs
 
--- src/tables.rt:49:9
 add-k : tie.Need-add-k Inv-loop μ-loop
 add-k c = search needs
 
--- src/tables.rt:49:5
 loop-less : tie.Need-loop-less Inv-loop μ-loop
 loop-less c = search needs
 
--- src/tables.rt:49:5
 loop-again : tie.Need-loop-again Inv-loop μ-loop
 loop-again c = (search needs, search needs)
 
--- src/tables.rt:45:1
 returns-2 : tie.Need-returns-2 Inv-loop μ-loop
 returns-2 c = search needs
 

@@ -6,26 +6,21 @@ use borrow.Author.Needs.{needs}
 use Rattle.cases.proofs.tables.print_small.Statement.{statement}
 use Rattle.cases.proofs.tables.print_small.Tie as tie
 
--- src/tables.rt:13:9
 returns : tie.Need-returns
 returns c = search needs
 
--- src/tables.rt:16:9
 returns-2 : tie.Need-returns-2
 returns-2 c = search needs
 
--- src/tables.rt:18:18
 cast-print-number : tie.Need-cast-print-number
 cast-print-number c =
     let low = t≥ {a = W64 (c .before .before .args .x)} {b = negsuc 999999999} (c .before .if1 .left) (search zlin depth 14) (omega (arith, zin)) in
     let high = t≥ {a = pos 1000000000} {b = W64 (c .before .before .args .x)} (c .if2 .left) (search zlin depth 14) (omega (arith, zin)) in
     zfits (search zlin depth 14) (omega (arith, zin))
 
--- src/tables.rt:18:5
 print-number-requires : tie.Need-print-number-requires
 print-number-requires c κs = search needs
 
--- src/tables.rt:11:1
 returns-3 : tie.Need-returns-3
 returns-3 c = search needs
 

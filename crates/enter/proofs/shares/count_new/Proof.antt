@@ -15,40 +15,32 @@ Inv-loop head keys index weights coords n count₀ slot₀ count slot = (slot �
 abbrev μ-loop : tie.MeasureT-loop
 μ-loop head keys index weights coords n count₀ slot₀ count slot = n - slot
 
--- src/shares.rt:32:13
 add-n : tie.Need-add-n Inv-loop μ-loop
 add-n c = let r = c .before .before .before .pre .ranged .d-most in search needs
 
--- src/shares.rt:34:5
 loop-holds : tie.Need-loop-holds Inv-loop μ-loop
 loop-holds c = (search needs, refl, search needs, λ v. news-none _ _ _ (rows-none _ _ _ v))
 
--- src/shares.rt:35:25
 new-in-slot-requires : tie.Need-new-in-slot-requires Inv-loop μ-loop
 new-in-slot-requires c κs = let l = c .before .loop in (c .before .before .before .before .before .pre, omega (arith, l .inv, c .loop-test .taken))
 
--- src/shares.rt:35:17
 add-count : tie.Need-add-count Inv-loop μ-loop
 add-count c = let l = c .before .before .loop in
     let r = c .before .before .before .before .before .before .pre .ranged .d-most in
     let f = count-few _ _ _ _ _ _ _ (c .new-in-slot .ensures) in
     record { fits = omega (arith, l .inv) }
 
--- src/shares.rt:34:9
 add-slot : tie.Need-add-slot Inv-loop μ-loop
 add-slot c = search needs
 
--- src/shares.rt:34:5
 loop-less : tie.Need-loop-less Inv-loop μ-loop
 loop-less c = search needs
 
--- src/shares.rt:34:5
 loop-again : tie.Need-loop-again Inv-loop μ-loop
 loop-again c = let l = c .before .before .loop in
     let f = count-few _ _ _ _ _ _ _ (c .new-in-slot .ensures) in
     (search needs, l .inv .1, omega (arith, l .inv), count-more _ _ _ _ _ (l .slot) (l .count) _ (l .inv .3) (c .new-in-slot .ensures))
 
--- src/shares.rt:28:1
 returns : tie.Need-returns Inv-loop μ-loop
 returns c = let l = c .before .loop in counts-at _ _ _ _ _ (l .slot) _ _ (omega (arith, l .inv)) (l .inv .3)
 

@@ -6,51 +6,40 @@ use borrow.Author.Needs.{needs}
 use Rattle.enter.proofs.shares.new_in_slot.Statement.{statement}
 use Rattle.enter.proofs.shares.new_in_slot.Tie as tie
 
--- src/shares.rt:19:8
 mul-if1 : tie.Need-mul-if1
 mul-if1 c = search needs
 
--- src/shares.rt:19:8
 shared-slice-read-if1 : tie.Need-shared-slice-read-if1
 shared-slice-read-if1 c = search needs
 
--- src/shares.rt:20:9
 returns : tie.Need-returns
 returns c = λ v.
     let a = c .before .before .before .before .args in
     news-none _ _ _ (slot-none (a .head .d) (a .weights .now) (a .coords .now) v (a .slot) (c .if1 .taken))
 
--- src/shares.rt:22:17
 mul-start : tie.Need-mul-start
 mul-start c = search needs
 
--- src/shares.rt:23:15
 add-end : tie.Need-add-end
 add-end c = search needs
 
--- src/shares.rt:24:31
 mul-is-new : tie.Need-mul-is-new
 mul-is-new c = search needs
 
--- src/shares.rt:24:31
 sub-is-new : tie.Need-sub-is-new
 sub-is-new c = search needs
 
--- src/shares.rt:24:31
 part-is-new-start : tie.Need-part-is-new-start
 part-is-new-start c = search needs
 
--- src/shares.rt:24:31
 part-is-new-end : tie.Need-part-is-new-end
 part-is-new-end c = search needs
 
--- src/shares.rt:24:5
 is-new-requires : tie.Need-is-new-requires
 is-new-requires c κs = let a = c .before .before .before .before .before .before .args in
     let p = c .before .before .before .before .before .before .pre in
     record { ranged = p .0 .ranged; keys-size = p .0 .keys-size; index-size = p .0 .index-size; points = _; sparse = p .0 .sparse; key-size = kept-size (a .head .d) (a .coords .now) (a .slot) (p .0 .ranged .d-most) (p .1) (p .0 .arrays .coords-size) }
 
--- src/shares.rt:14:1
 returns-2 : tie.Need-returns-2
 returns-2 c = λ v.
     let a = c .before .before .before .before .before .before .before .args in

@@ -33,15 +33,12 @@ ready s =
     (λ (v : ℤ). Pouring (settings (a .head)) (table (a .head) (a .keys .now) (a .sums .now) (a .index .now)) (a .weights .now) (a .coords .now) v (rowsTo (a .head .d) (a .weights .now) (a .coords .now) v (suc (a .head .d))))
     (sym (toZ-ofZ (s .fits .value))) (s .pre)
 
--- src/shares.rt:62:13
 add-n : tie.Need-add-n Inv-loop μ-loop
 add-n c = let r = c .before .before .before .pre .ranged .d-most in search needs
 
--- src/shares.rt:64:5
 loop-holds : tie.Need-loop-holds Inv-loop μ-loop
 loop-holds c = (search needs, refl, refl, refl, refl, sym (pour-none _ _ _ (rows-none _ _ _ _)))
 
--- src/shares.rt:65:9
 pour-slot-requires : tie.Need-pour-slot-requires Inv-loop μ-loop
 pour-slot-requires c κs = let l = c .before .before .before .before .loop in
     let s = c .before .before .before .before .before .before .before .before in
@@ -49,34 +46,27 @@ pour-slot-requires c κs = let l = c .before .before .before .before .loop in
     let i = l .inv in
     (record { ranged = q .ranged; arrays = q .arrays; fair = q .fair; turns = slot-pourable _ _ _ _ _ _ _ _ _ (omega (arith, i .0, i .1, c .before .before .before .loop-test .taken)) (q .turns) (i .5) }, omega (arith, i .0, i .1, c .before .before .before .loop-test .taken))
 
--- src/shares.rt:64:9
 add-slot : tie.Need-add-slot Inv-loop μ-loop
 add-slot c = search needs
 
--- src/shares.rt:64:5
 loop-less : tie.Need-loop-less Inv-loop μ-loop
 loop-less c = search needs
 
--- src/shares.rt:64:5
 loop-again : tie.Need-loop-again Inv-loop μ-loop
 loop-again c = let o = c .before .before .before .before .pour-slot in
     let l = c .before .before .before .before .before .before .before .before .before .loop in
     let k = o .kept .1 .1 in
     (search needs, refl, k .0 ∙ l .inv .2, k .1 .0 ∙ l .inv .3, k .1 .1 .0 ∙ l .inv .4, pour-turn _ (c .before .before .before .before .before .before .before .before .before .before .before .before .before .args .head) _ _ _ _ _ _ _ _ _ _ _ _ (l .inv .5) (o .ensures) (rows-more _ _ _ _ (l .slot)))
 
--- src/shares.rt:58:1
 same-length : tie.Need-same-length Inv-loop μ-loop
 same-length c = search needs
 
--- src/shares.rt:58:1
 same-length-2 : tie.Need-same-length-2 Inv-loop μ-loop
 same-length-2 c = search needs
 
--- src/shares.rt:58:1
 same-length-3 : tie.Need-same-length-3 Inv-loop μ-loop
 same-length-3 c = search needs
 
--- src/shares.rt:58:1
 returns : tie.Need-returns Inv-loop μ-loop
 returns c = let l = c .before .loop in
     let s = c .before .before .before .before .before in

@@ -16,48 +16,37 @@ use borrow.Author.Needs.{needs}
 use Rattle.enter.proofs.shares.pour_slot.Statement.{statement}
 use Rattle.enter.proofs.shares.pour_slot.Tie as tie
 
--- src/shares.rt:57:18
 mul-weight : tie.Need-mul-weight
 mul-weight c = search needs
 
--- src/shares.rt:57:18
 shared-slice-read-weight : tie.Need-shared-slice-read-weight
 shared-slice-read-weight c = search needs
 
--- src/shares.rt:59:9
 returns : tie.Need-returns
 returns c = let a = c .before .before .before .before .args in
     holds-same _ (pour-none _ _ _ (slot-none (a .head .d) (a .weights .now) (a .coords .now) (a .value) (a .slot) (c .if1 .taken)))
 
--- src/shares.rt:61:17
 mul-start : tie.Need-mul-start
 mul-start c = search needs
 
--- src/shares.rt:62:15
 add-end : tie.Need-add-end
 add-end c = search needs
 
--- src/shares.rt:63:16
 cast-mass : tie.Need-cast-mass
 cast-mass c = let l = c .before .before .before .before .before .pre .0 .arrays .light (c .before .before .before .before .before .args .slot) in zfits (search zlow depth 14) (omega (arith, zin))
 
--- src/shares.rt:64:9
 times-requires : tie.Need-times-requires
 times-requires c κs = let f = c .before .before .before .before .before .fits .value in (omega (arith, c .before .before .before .before .before .pre .0 .arrays .light (c .before .before .before .before .before .args .slot)), rw (toZ-ofZ f) (c .before .before .before .before .before .pre .0 .fair))
 
--- src/shares.rt:65:46
 mul-add-row : tie.Need-mul-add-row
 mul-add-row c = search needs
 
--- src/shares.rt:65:46
 sub-add-row : tie.Need-sub-add-row
 sub-add-row c = search needs
 
--- src/shares.rt:65:46
 part-add-row-start : tie.Need-part-add-row-start
 part-add-row-start c = search needs
 
--- src/shares.rt:65:46
 part-add-row-end : tie.Need-part-add-row-end
 part-add-row-end c = search needs
 
@@ -79,23 +68,18 @@ one c =
     (c .before .before .before .before .before .before .if1 .left) refl (zeq (search zlow depth 14) (omega (arith, zin)))
     (toZ-ofZ f ∙ c .before .before .before .before .times .ensures ∙ ap (λ (z : ℤ). pos (getD (a .weights .now) (a .slot) 0) *ℤ z) (toZ-ofZ (s .fits .value)))
 
--- src/shares.rt:65:5
 add-row-requires : tie.Need-add-row-requires
 add-row-requires c κs = let s = c .before .before .before .before .before .before .before .before .before .before in one-addable _ _ _ _ (s .pre .0 .turns) (one c)
 
--- src/shares.rt:52:1
 same-length : tie.Need-same-length
 same-length c = search needs
 
--- src/shares.rt:52:1
 same-length-2 : tie.Need-same-length-2
 same-length-2 c = search needs
 
--- src/shares.rt:52:1
 same-length-3 : tie.Need-same-length-3
 same-length-3 c = search needs
 
--- src/shares.rt:52:1
 returns-2 : tie.Need-returns-2
 returns-2 c = holds-at (c .before .before .before .before .add-row .ensures) (pour-one _ _ _ _ (one (c .before .before .before .before .before)))
 

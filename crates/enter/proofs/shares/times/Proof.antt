@@ -12,19 +12,15 @@ use Rattle.enter.proofs.shares.times.Tie as tie
 product : (c : tie.Start) → Abs≤ (pos (c .args .weight) *ℤ c .args .value) 384000000
 product c = abs-times (pos (c .args .weight)) (c .args .value) {B = 384} {C = 1000000} (record { abs = omega (arith, c .pre .0) }) (abs-of (c .args .value) 1000000 (c .pre .1)) (omega arith)
 
--- src/shares.rt:48:6
 cast-result : tie.Need-cast-result
 cast-result c = search needs
 
--- src/shares.rt:48:24
 cast-result-2 : tie.Need-cast-result-2
 cast-result-2 c = zfits (search zlin depth 14) (omega (arith, zin))
 
--- src/shares.rt:48:5
 mul-result : tie.Need-mul-result
 mul-result c = let b = product c in zfits (search zlow depth 14) (omega (arith, zin))
 
--- src/shares.rt:43:1
 returns : tie.Need-returns
 returns c = let b = product c in let m = mul-is (pos (c .args .weight)) (c .args .value) in zeq (search zlow depth 14) (omega (arith, zin))
 

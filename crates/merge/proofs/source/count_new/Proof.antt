@@ -13,19 +13,19 @@ use Rattle.merge.proofs.source.count_new.Statement.{statement}
 use Rattle.merge.proofs.source.count_new.Tie as tie
 
 abbrev Inv-loop : tie.InvT-loop
-Inv-loop head keys index source-keys source-points count₀ i₀ count i = (i ≤ source-points) × (count ≤ i) × (count ≡ news (settings head) (table head keys [] index) (firstRows (head .d) source-keys [] i))
+Inv-loop head keys index source-keys source-points count₀ i₀ count i = (count ≡ news (settings head) (table head keys [] index) (firstRows (head .d) source-keys [] i)) × (i ≤ source-points) × (count ≤ i)
 
 abbrev μ-loop : tie.MeasureT-loop
 μ-loop head keys index source-keys source-points count₀ i₀ count i = source-points - i
 
 loop-holds : tie.Need-loop-holds Inv-loop μ-loop
-loop-holds c = (search needs, search needs, count-none _ _ _ _ _)
+loop-holds c = (count-none _ _ _ _ _, search needs, search needs)
 
 new-row-requires : tie.Need-new-row-requires Inv-loop μ-loop
 new-row-requires c κs =
     let l = c .before .loop in
     let s = c .before .before .before in
-    (s .pre .0, stretch-of _ _ _ _ (s .pre .1) (omega (arith, l .inv .0, c .loop-test .taken)))
+    (s .pre .0, stretch-of _ _ _ _ (s .pre .1) (omega (arith, l .inv .1, c .loop-test .taken)))
 
 add-count : tie.Need-add-count Inv-loop μ-loop
 add-count c =
@@ -33,7 +33,7 @@ add-count c =
     let s = c .before .before .before .before in
     let a = s .args in
     let k : c .new-row .result ≤ 1 = one-most (settings (a .head)) (a .keys .now) (a .index .now) (keyAt (a .head .d) (a .source-keys .now) (c .before .before .loop .i)) _ (c .new-row .ensures) in
-    record { fits = omega (arith, l .inv .0, l .inv .1, s .pre .1 .few, k) }
+    record { fits = omega (arith, l .inv .1, l .inv .2, s .pre .1 .few, k) }
 
 add-i : tie.Need-add-i Inv-loop μ-loop
 add-i c = search needs
@@ -46,10 +46,10 @@ loop-again c =
     let l = c .before .before .loop in
     let a = c .before .before .before .before .args in
     let k : c .new-row .result ≤ 1 = one-most (settings (a .head)) (a .keys .now) (a .index .now) (keyAt (a .head .d) (a .source-keys .now) (c .before .before .loop .i)) _ (c .new-row .ensures) in
-    (search needs, omega (arith, l .inv .1, k), count-more _ _ _ _ _ (l .i) (l .count) _ (l .inv .2) (c .new-row .ensures))
+    (count-more _ _ _ _ _ (l .i) (l .count) _ (l .inv .0) (c .new-row .ensures), search needs, omega (arith, l .inv .2, k))
 
 returns : tie.Need-returns Inv-loop μ-loop
-returns c = let l = c .before .loop in count-all _ _ _ _ _ _ (l .i) _ (omega (arith, l .inv .0, c .loop-test .left)) (l .inv .2)
+returns c = let l = c .before .loop in count-all _ _ _ _ _ _ (l .i) _ (omega (arith, l .inv .1, c .loop-test .left)) (l .inv .0)
 
 pub count-new-spec : {M : Type 1} → statement M
 count-new-spec =

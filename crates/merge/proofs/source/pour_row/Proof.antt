@@ -1,12 +1,7 @@
 -- The row that is added is the source's: its stretch, its mass and its value sum.
-use Prim.Native.Nat.{_+_, _*_}
-use mir.Val.{SFits}
-use mir.Syntax.{w64}
-use mir.Facts.{toZ-ofZ}
 use borrow.Author.Needs.{needs}
-use Rattle.whole.specs.Lists.{at}
 use Rattle.table.specs.Heads.{settings, stored}
-use Rattle.merge.proofs.Rows.{row-lent, row-added}
+use Rattle.merge.proofs.Rows.{back64, row-lent, row-added}
 use Rattle.merge.proofs.source.pour_row.Statement.{statement}
 use Rattle.merge.proofs.source.pour_row.Tie as tie
 
@@ -51,17 +46,13 @@ returns c =
     let o = c .before .before .before .before in
     let g = o .before .before .before .before .before in
     let s = g .before .before .before .before .before in
-    let f : SFits w64 (at (s .args .source-sums .now) (2 * s .args .row)) = record { sfits = g .before .mass .given } in
-    let h : SFits w64 (at (s .args .source-sums .now) (2 * s .args .row + 1)) = record { sfits = g .value .given } in
-    row-added (settings (s .args .head)) (stored (s .args .head) (s .args .points) (s .args .keys .now) (s .args .sums .now) (s .args .index .now)) _ (s .args .source-sums .now) (s .args .row) _ _ (s .pre .1 .stretch) (toZ-ofZ f) (toZ-ofZ h) (o .add-row .ensures)
+    row-added (settings (s .args .head)) (stored (s .args .head) (s .args .points) (s .args .keys .now) (s .args .sums .now) (s .args .index .now)) _ (s .args .source-sums .now) (s .args .row) _ _ (s .pre .1 .stretch) (back64 (g .before .mass .given)) (back64 (g .value .given)) (o .add-row .ensures)
 
 add-row-requires : tie.Need-add-row-requires
 add-row-requires c κs =
     let g = c .before .before .before .before in
     let s = g .before .before .before .before .before in
-    let f : SFits w64 (at (s .args .source-sums .now) (2 * s .args .row)) = record { sfits = g .before .mass .given } in
-    let h : SFits w64 (at (s .args .source-sums .now) (2 * s .args .row + 1)) = record { sfits = g .value .given } in
-    row-lent _ _ _ (s .args .source-sums .now) (s .args .row) _ _ (s .pre .1 .stretch) (toZ-ofZ f) (toZ-ofZ h) (s .pre .0)
+    row-lent _ _ _ (s .args .source-sums .now) (s .args .row) _ _ (s .pre .1 .stretch) (back64 (g .before .mass .given)) (back64 (g .value .given)) (s .pre .0)
 
 same-length : tie.Need-same-length
 same-length c = search needs
