@@ -1,6 +1,5 @@
 // Merging: a source table is read, and each of its pairs is added to a target table in lent memory,
 // all or nothing. Both are judged before anything is written.
-ghost use mathlib.Core.Path.{_≡_};
 ghost use Rattle.table.specs.Calls.{mergeRefusal, afterMerge};
 ghost use Rattle.table.specs.Heads.{settings, table, Answers};
 
@@ -11,19 +10,7 @@ use crate::judging::refusal_of;
 use crate::source::pour_rows;
 use table::Answer;
 use table::Head;
-
-// The head of the same settings with these counts.
-fn with_counts(head: Head, readings: usize, points: usize) -> Head
-    ensures { λ r. ⌜ r ≡ record { d = head .d; fineness = head .fineness; capacity = head .capacity; readings = readings; points = points } ⌝ }
-{
-    Head {
-        d: head.d,
-        fineness: head.fineness,
-        capacity: head.capacity,
-        readings,
-        points,
-    }
-}
+use table::with_counts;
 
 // The number 0 and the head of the target with the source in it, or the number of the first refusal
 // that is met and the head as given. Capacities may differ.

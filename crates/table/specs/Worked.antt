@@ -5,8 +5,10 @@ use mathlib.Core.List.{List, [], _∷_}
 use Prim.Native.Nat.{ℕ}
 use lib.IntN.{ℤ, pos, negsuc}
 use lib.ListN.{set}
+use Rattle.lattice.specs.Limits.{most-readings}
 use Rattle.table.specs.Table.{Settings, Table, rows}
 use Rattle.table.specs.Sound.{sound}
+use Rattle.table.specs.Reading.{refusal}
 use Rattle.table.specs.Calls.{Outcome, fresh, enter}
 
 abbrev pub ofLog : ℕ → Settings
@@ -39,6 +41,15 @@ pub record LogCases : Type 0 where
 pub record RoomCases : Type 0 where
   pub room-for-two : (afterLog 2 bothReadings) .number ≡ 0
   pub room-for-one : (afterLog 1 bothReadings) .number ≡ 8
+
+-- the table of the log where only its two points have room, as if it held 4,096 readings
+abbrev pub fullTable : Table
+fullTable = let t = (afterLog 2 bothReadings) .table in record { n = most-readings; m = t .m; keys = t .keys; sums = t .sums; index = t .index }
+
+-- "for each reading 4, 5, 6, 7, 8": where a reading would be one too many, and its points too, 7 is told.
+pub record OrderCases : Type 0 where
+  pub seven-before-eight : refusal (ofLog 2) fullTable (record { place = pos 100 ∷ negsuc 99 ∷ []; value = pos 0 }) ≡ 7
+  pub six-before-seven : refusal (ofLog 2) fullTable (record { place = pos 100 ∷ negsuc 99 ∷ []; value = pos 1000001 }) ≡ 6
 
 -- "(1000000,-1000000) is taken; (1000001,0) is 4, not 5; (5,-4) is 5."
 pub record ReadingCases : Type 0 where

@@ -1,5 +1,7 @@
 // A table of readings: the head, which is passed by value, and the call that makes a fresh table.
 // What a table means and what each call answers stands in specs/, and the laws of that in proofs/.
+ghost use mathlib.Core.Path.{_≡_};
+
 pub mod fresh;
 pub mod settings;
 
@@ -16,4 +18,17 @@ pub struct Head {
 pub struct Answer {
     pub number: u8,
     pub head: Head,
+}
+
+// The head of the same settings with these counts.
+pub fn with_counts(head: Head, readings: usize, points: usize) -> Head
+    ensures { λ r. ⌜ r ≡ record { d = head .d; fineness = head .fineness; capacity = head .capacity; readings = readings; points = points } ⌝ }
+{
+    Head {
+        d: head.d,
+        fineness: head.fineness,
+        capacity: head.capacity,
+        readings,
+        points,
+    }
 }

@@ -46,13 +46,17 @@ returns c =
     let o = c .before .before .before .before in
     let g = o .before .before .before .before .before in
     let s = g .before .before .before .before .before in
-    row-added (settings (s .args .head)) (stored (s .args .head) (s .args .points) (s .args .keys .now) (s .args .sums .now) (s .args .index .now)) _ (s .args .source-sums .now) (s .args .row) _ _ (s .pre .1 .stretch) (back64 (g .before .mass .given)) (back64 (g .value .given)) (o .add-row .ensures)
+    let p = back64 (g .before .mass .given) in
+    let q = back64 (g .value .given) in
+    row-added (settings (s .args .head)) (stored (s .args .head) (s .args .points) (s .args .keys .now) (s .args .sums .now) (s .args .index .now)) _ (s .args .source-sums .now) (s .args .row) _ _ (s .pre .1 .stretch) p q (o .add-row .ensures)
 
 add-row-requires : tie.Need-add-row-requires
 add-row-requires c κs =
     let g = c .before .before .before .before in
     let s = g .before .before .before .before .before in
-    row-lent _ _ _ (s .args .source-sums .now) (s .args .row) _ _ (s .pre .1 .stretch) (back64 (g .before .mass .given)) (back64 (g .value .given)) (s .pre .0)
+    let p = back64 (g .before .mass .given) in
+    let q = back64 (g .value .given) in
+    row-lent _ _ _ (s .args .source-sums .now) (s .args .row) _ _ (s .pre .1 .stretch) p q (s .pre .0)
 
 same-length : tie.Need-same-length
 same-length c = search needs
