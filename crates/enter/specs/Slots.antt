@@ -1,17 +1,16 @@
 -- The rows that a reading adds, slot by slot of its enclosing simplex: what functions inside the crate ask of one another.
 use mathlib.Core.Path.{_≡_}
 use mathlib.Core.List.{List, map}
-use Prim.Native.Nat.{ℕ, _*_, _≤_}
+use Prim.Native.Nat.{ℕ, _≤_}
 use lib.IntN.{ℤ, natAbs}
 use lib.ListN.{length, getD}
 use Rattle.whole.specs.Lists.{collect}
 use Rattle.lattice.specs.Limits.{most-value, most-W}
 use Rattle.simplex.specs.Slots.{slot}
-use Rattle.index.specs.Search.{entryAt}
-use Rattle.index.specs.Indexed.{Sparse}
 use Rattle.table.specs.Table.{Settings, Table, Row}
 use Rattle.table.specs.Pour.{news}
 use Rattle.table.specs.Inner.{Ranged, weighedRow, InTurn}
+use Rattle.pour.specs.Inner.{Seekable}
 
 -- the rows of slot k, and of the slots before n
 unfoldable pub slotRows : ℕ → List ℕ → List ℤ → ℤ → ℕ → List Row
@@ -35,10 +34,7 @@ pub record Pouring (c : Settings) (t : Table) (weights : List ℕ) (coords : Lis
 
 -- what counting the new points asks
 pub record Counting (c : Settings) (m : ℕ) (keys : List ℤ) (index : List ℕ) (weights : List ℕ) (coords : List ℤ) : Type 0 where
-  pub ranged : Ranged c
-  pub keys-size : length keys ≡ c .d * c .C
-  pub index-size : length index ≡ 2 * c .C
-  pub sparse : Sparse (c .C) m (entryAt index)
+  pub seekable : Seekable c m keys index
   pub arrays : Arrays weights coords
 
 -- so many of the rows are new, whatever the value

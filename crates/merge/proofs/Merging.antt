@@ -11,12 +11,11 @@ use Rattle.table.specs.Table.{Settings, Table, rows}
 use Rattle.table.specs.Pour.{pour, news}
 use Rattle.table.specs.Heads.{settings, table, headOf, Holds, Answers}
 use Rattle.table.specs.Calls.{mergeRefusal, afterMerge}
-use Rattle.table.specs.Inner.{InTurn}
-use Rattle.table.proofs.Soundness.{Fine}
+use Rattle.table.specs.Inner.{InTurn, Fine}
 use Rattle.table.proofs.Turns.{in-turn, pour-n}
 use Rattle.table.proofs.Keeping.{mergeable, source-acceptable, acceptable-pours}
 use Rattle.table.proofs.Calls.{merge-done, merge-refused}
-use Rattle.merge.specs.Source.{firstRows, Stretches, Pouring, Seekable}
+use Rattle.merge.specs.Source.{firstRows, Stretches, Pouring}
 use Rattle.merge.proofs.Rows.{rows-all, news-keys}
 
 -- ---- what is asked
@@ -26,9 +25,6 @@ stretches-of d b s F e = subst (λ (d : ℕ). Stretches d (s .keys) (s .m)) (sym
   few = omega (arith, F .ranged .C-most, F .sound .indexed .sparse .room);
   inside = omega (arith, F .shape .keys, mul-le-mul (le-refl (b .d)) (F .sound .indexed .sparse .room));
 }
-
-pub seekable : (c : Settings) (t : Table) → Fine c t → Seekable c (t .m) (t .keys) (t .index)
-seekable c t F = record { ranged = F .ranged; keys-size = F .shape .keys; index-size = F .shape .index; sparse = F .sound .indexed .sparse }
 
 pub pouring : (c : Settings) (t : Table) (b : Settings) (s : Table) → mergeRefusal c t b s ≡ 0 → Pouring c t (s .keys) (s .sums) (s .m)
 pouring c t b s e =

@@ -13,7 +13,8 @@ use Rattle.table.specs.Sound.{sound}
 use Rattle.table.specs.Pour.{news}
 use Rattle.table.specs.Calls.{ranged, fits, mergeRefusal}
 use Rattle.table.proofs.Refusals.{first-zero}
-use Rattle.table.proofs.Soundness.{Fine, to-ranged, to-shape, to-sound}
+use Rattle.table.specs.Inner.{Fine}
+use Rattle.table.proofs.Soundness.{to-ranged, to-shape, to-sound}
 use Rattle.merge.specs.Refusals.{eachRefusal, bothRefusal}
 
 -- ---- some tests, then others: the first that fails is one of the first,

@@ -1,5 +1,4 @@
 -- The rows of a source in its lent keys and sums, one after the other: what functions inside the crate ask of one another.
-use mathlib.Core.Path.{_≡_}
 use mathlib.Core.List.{List}
 use Prim.Native.Nat.{ℕ, _+_, _*_, _≤_, _<_}
 use lib.IntN.{ℤ}
@@ -7,10 +6,8 @@ use lib.ListN.{length}
 use Rattle.whole.specs.Lists.{at, tab}
 use Rattle.lattice.specs.Limits.{most-d, most-C}
 use Rattle.index.specs.Keys.{keyAt}
-use Rattle.index.specs.Search.{entryAt}
-use Rattle.index.specs.Indexed.{Sparse}
 use Rattle.table.specs.Table.{Settings, Table, Row}
-use Rattle.table.specs.Inner.{Ranged, InTurn}
+use Rattle.table.specs.Inner.{InTurn}
 
 -- row i, and the first i of them
 abbrev pub sourceRow : ℕ → List ℤ → List ℤ → ℕ → Row
@@ -41,10 +38,3 @@ pub record Pouring (c : Settings) (t : Table) (keys sums : List ℤ) (m : ℕ) :
   pub stretches : Stretches (c .d) keys m
   pub pairs : 2 * m ≤ length sums
   pub in-turn : InTurn c t (firstRows (c .d) keys sums m)
-
--- what seeking keys among m points asks of lent keys and a lent index
-pub record Seekable (c : Settings) (m : ℕ) (keys : List ℤ) (index : List ℕ) : Type 0 where
-  pub ranged : Ranged c
-  pub keys-size : length keys ≡ c .d * c .C
-  pub index-size : length index ≡ 2 * c .C
-  pub sparse : Sparse (c .C) m (entryAt index)

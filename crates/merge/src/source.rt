@@ -4,9 +4,9 @@ ghost use mathlib.Core.List.{[]};
 ghost use Rattle.table.specs.Pour.{add, pour, news};
 ghost use Rattle.table.specs.Heads.{settings, stored, table, Holds};
 ghost use Rattle.table.specs.Inner.{Addable};
-ghost use Rattle.pour.specs.Inner.{oneIfNew};
+ghost use Rattle.pour.specs.Inner.{Seekable, oneIfNew};
 ghost use Rattle.index.specs.Keys.{keyAt};
-ghost use Rattle.merge.specs.Source.{sourceRow, firstRows, Stretch, InSource, Stretches, Seekable, Pouring};
+ghost use Rattle.merge.specs.Source.{sourceRow, firstRows, Stretch, InSource, Stretches, Pouring};
 use table::Head;
 
 // 1 where the target has no point with the key of this row, else 0.

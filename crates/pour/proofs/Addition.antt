@@ -31,11 +31,8 @@ passed-is r f g = λ i. record { key = r .key; mass = toZ-ofZ f i; value = toZ-o
 module _ (c : Settings) (t : Table) (r : Row) (A : Addable c t r) where
   pub sought : Sought c (t .keys) (t .index) (r .key)
   sought = record {
-    ranged = A .ranged;
-    keys-size = A .kept .shape .keys;
-    index-size = A .kept .shape .index;
     points = t .m;
-    sparse = A .kept .indexed .sparse;
+    seekable = record { ranged = A .ranged; keys-size = A .kept .shape .keys; index-size = A .kept .shape .index; sparse = A .kept .indexed .sparse };
     key-size = A .good .size;
   }
 

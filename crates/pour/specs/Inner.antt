@@ -35,13 +35,17 @@ pub record Appendable (c : Settings) (t : Table) (place : ℕ) (r : Row) : Type 
   pub C-most : c .C ≤ most-C
   pub place-in : place < 2 * c .C
 
--- What a search for a key asks of the settings, the lent keys and the lent index: among 2·C places, those of at most C points.
-pub record Sought (c : Settings) (keys : List ℤ) (index : List ℕ) (key : List ℤ) : Type 0 where
+-- Lent keys and a lent index in which keys can be sought: among 2·C places, those of m points.
+pub record Seekable (c : Settings) (m : ℕ) (keys : List ℤ) (index : List ℕ) : Type 0 where
   pub ranged : Ranged c
   pub keys-size : length keys ≡ c .d * c .C
   pub index-size : length index ≡ 2 * c .C
+  pub sparse : Sparse (c .C) m (entryAt index)
+
+-- What the search for a key asks of them.
+pub record Sought (c : Settings) (keys : List ℤ) (index : List ℕ) (key : List ℤ) : Type 0 where
   pub points : ℕ
-  pub sparse : Sparse (c .C) points (entryAt index)
+  pub seekable : Seekable c points keys index
   pub key-size : length key ≡ c .d
 
 -- "Only the points that are new count.": 1 where the search for the key ends at an empty place, else 0

@@ -1,28 +1,17 @@
 -- What a fresh call answers, by the tests that the code has made of its settings and of the lengths of its slices.
-use mathlib.Core.Path.{_≡_, refl, ap, sym, subst, _∙_}
-use mathlib.Core.Bool.{Bool, true, false, not}
+use mathlib.Core.Path.{_≡_, refl, ap, sym, _∙_}
+use mathlib.Core.Bool.{true, false}
 use mathlib.Core.List.{List}
 use Prim.Native.Nat.{ℕ, suc}
-use lib.Dec.{T}
 use lib.IntN.{ℤ, pos}
 use lib.ListN.{length, replicate}
-use borrow.Author.Tests.{not-true, not-false}
 use Rattle.lattice.specs.Refusals.{first, settings-out-of-range, other-length}
 use Rattle.table.specs.Table.{Settings, Table}
 use Rattle.table.specs.Calls.{ranged, fits, lent, fresh, freshRefusal, afterFresh}
 use Rattle.table.specs.Heads.{headOf, Answers}
 use Rattle.table.proofs.Soundness.{to-shape}
 use Rattle.table.proofs.Calls.{fresh-done, fresh-refused}
-
--- a test that the code has made of b, passed or failed
-pub passed : {t : Bool} (b : Bool) → t ≡ b → not t ≡ false → b ≡ true
-passed {t} b e n = sym e ∙ not-false t n
-
-pub failed : {t : Bool} (b : Bool) → t ≡ b → not t ≡ true → b ≡ false
-failed {t} b e n = sym e ∙ not-true t n
-
-pub T-of : {b : Bool} → b ≡ true → T b
-T-of e = subst T (sym e) tt
+use Rattle.table.proofs.Refusals.{T-of}
 
 -- ---- what a fresh call answers
 module _ (c : Settings) (keys sums : List ℤ) (index : List ℕ) where

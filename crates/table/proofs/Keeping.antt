@@ -26,10 +26,10 @@ use Rattle.table.specs.Sound.{sound, Good}
 use Rattle.table.specs.Pour.{pour, news, accept}
 use Rattle.table.specs.Reading.{Reading, readingAt, parsed, shares, refusal, entered}
 use Rattle.table.specs.Calls.{ranged, fits, fresh, mergeRefusal, merged, callRefusal}
-use Rattle.table.specs.Inner.{Ranged, massOf}
+use Rattle.table.specs.Inner.{Ranged, massOf, Fine}
 use Rattle.table.proofs.Lists.{all-tab, each-tab}
 use Rattle.table.proofs.Rows.{Apart, Additive}
-use Rattle.table.proofs.Soundness.{Fine, to-ranged, to-shape, to-sound, fine-kept, masses-over, total-most}
+use Rattle.table.proofs.Soundness.{to-ranged, to-shape, to-sound, fine-kept, masses-over, total-most}
 use Rattle.table.proofs.Pouring.{Pourable, poured-all}
 use Rattle.table.proofs.Refusals.{first-zero}
 use Rattle.table.proofs.Shares.{Accepted, accepted, shares-apart, shares-mass, shares-good}

@@ -16,11 +16,11 @@ use Rattle.index.specs.Keys.{same}
 use Rattle.index.proofs.Equality.{same-eq, eq-same}
 use Rattle.index.proofs.Finding.{keys-apart}
 use Rattle.table.specs.Table.{Settings, Table, Row, key, mass, value, row, rows, entry, found, pairAt, held}
-use Rattle.table.specs.Inner.{Kept, massOf}
+use Rattle.table.specs.Inner.{Kept, massOf, Fine}
 use Rattle.table.specs.Theorems.{plus}
 use Rattle.table.proofs.Lists.{over-tab}
 use Rattle.table.proofs.Rows.{join, valueOf, Additive, gives, given, pair-path}
-use Rattle.table.proofs.Soundness.{Fine, fine-kept}
+use Rattle.table.proofs.Soundness.{fine-kept}
 use Rattle.table.proofs.Adding.{low-found, has-key, finds-key}
 use Rattle.table.proofs.Keeping.{Adds}
 

@@ -22,7 +22,7 @@ use Rattle.table.specs.Table.{Settings, Table, key, mass, row, rows, ent
 use Rattle.table.specs.Sound.{good, indexed, sound, Sound}
 use Rattle.table.specs.Calls.{ranged, fits}
 use Rattle.table.specs.Theorems.{Usable}
-use Rattle.table.specs.Inner.{Ranged, Shape, Kept, massOf}
+use Rattle.table.specs.Inner.{Ranged, Shape, Kept, massOf, Fine}
 use Rattle.table.proofs.Lists.{over-tab}
 use Rattle.table.proofs.Good.{to-good, of-good}
 
@@ -139,12 +139,6 @@ module _ (c : Settings) (t : Table) where
       (and-i goods weighs
       (all-of (t .m) (λ i. good (c .d) (row c t i)) (λ i l. of-good (c .d) (row c t i) (Q .good i l)))
       (subst (λ (z : ℤ). T (eqZ (sum (t .m) (mass t)) z)) (Q .masses) (eqZ-refl (sum (t .m) (mass t)))))
-
--- ---- what every call but fresh asks of a table, as facts
-pub record Fine (c : Settings) (t : Table) : Type 0 where
-  pub ranged : Ranged c
-  pub shape : Shape c t
-  pub sound : Sound c t
 
 pub to-fine : (c : Settings) (t : Table) → Usable c t → Fine c t
 to-fine c t U = record { ranged = to-ranged c (U .in-range); shape = to-shape c t (U .lengths); sound = to-sound c t (U .is-sound) }

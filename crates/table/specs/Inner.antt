@@ -9,7 +9,7 @@ use Rattle.whole.specs.Sum.{over}
 use Rattle.lattice.specs.Limits.{most-d, most-S, most-C, most-W, most-readings}
 use Rattle.index.specs.Indexed.{Indexed}
 use Rattle.table.specs.Table.{Settings, Table, Row, key, row, rows, entry, found}
-use Rattle.table.specs.Sound.{Good}
+use Rattle.table.specs.Sound.{Good, Sound}
 use Rattle.table.specs.Pour.{pour}
 
 -- the settings are in range
@@ -26,6 +26,12 @@ pub record Shape (c : Settings) (t : Table) : Type 0 where
   pub keys : length (t .keys) ≡ c .d * c .C
   pub sums : length (t .sums) ≡ 2 * c .C
   pub index : length (t .index) ≡ 2 * c .C
+
+-- Settings in range, lengths, and soundness: a table that a call which is not refused as a whole finds and leaves.
+pub record Fine (c : Settings) (t : Table) : Type 0 where
+  pub ranged : Ranged c
+  pub shape : Shape c t
+  pub sound : Sound c t
 
 -- soundness, but for the number of readings
 pub record Kept (c : Settings) (t : Table) : Type 0 where

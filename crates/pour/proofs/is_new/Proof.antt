@@ -8,7 +8,7 @@ search-requires : tie.Need-search-requires
 search-requires c κs = can-search _ _ _ _ (c .before .pre)
 
 mul-entry : tie.Need-mul-entry
-mul-entry c = let p = c .before .before .pre in omega (arith, place-in _ _ _ _ p (c .search .ensures), p .ranged .C-most)
+mul-entry c = let p = c .before .before .pre in omega (arith, place-in _ _ _ _ p (c .search .ensures), p .seekable .ranged .C-most)
 
 shared-slice-read-entry : tie.Need-shared-slice-read-entry
 shared-slice-read-entry c = place-read _ _ _ _ (c .before .before .before .pre) (c .before .search .ensures)

@@ -4,7 +4,7 @@ use mathlib.Core.Bool.{true}
 use Rattle.index.proofs.Finding.{to-sparse}
 use Rattle.table.specs.Table.{Settings, Table}
 use Rattle.table.specs.Heads.{settings, table}
-use Rattle.table.proofs.Answering.{passed, failed, T-of}
+use Rattle.table.proofs.Refusals.{passed, failed, T-of}
 use Rattle.soundness.proofs.Deciding.{thin, found, rows-of, too-many-points, too-many-readings, not-thin, not-found, by-rows}
 use Rattle.soundness.proofs.is_sound.Statement.{statement}
 use Rattle.soundness.proofs.is_sound.Tie as tie

@@ -7,7 +7,7 @@ use Rattle.table.specs.Table.{Settings, Table}
 use Rattle.table.specs.Sound.{sound}
 use Rattle.table.specs.Calls.{ranged, fits}
 use Rattle.table.specs.Heads.{settings, table}
-use Rattle.table.proofs.Answering.{passed, failed, T-of}
+use Rattle.table.proofs.Refusals.{passed, failed, T-of}
 use Rattle.table.proofs.Soundness.{to-ranged, to-shape}
 use Rattle.soundness.proofs.Deciding.{call-one, call-two, call-more, call-three, call-none}
 use Rattle.soundness.proofs.refusal_of.Statement.{statement}

@@ -16,7 +16,7 @@ abbrev μ-loop : tie.MeasureT-loop
 μ-loop head keys index weights coords n count₀ slot₀ count slot = n - slot
 
 add-n : tie.Need-add-n Inv-loop μ-loop
-add-n c = let r = c .before .before .before .pre .ranged .d-most in search needs
+add-n c = let r = c .before .before .before .pre .seekable .ranged .d-most in search needs
 
 loop-holds : tie.Need-loop-holds Inv-loop μ-loop
 loop-holds c = (search needs, refl, search needs, λ v. news-none _ _ _ (rows-none _ _ _ v))
@@ -26,7 +26,7 @@ new-in-slot-requires c κs = let l = c .before .loop in (c .before .before .befo
 
 add-count : tie.Need-add-count Inv-loop μ-loop
 add-count c = let l = c .before .before .loop in
-    let r = c .before .before .before .before .before .before .pre .ranged .d-most in
+    let r = c .before .before .before .before .before .before .pre .seekable .ranged .d-most in
     let f = count-few _ _ _ _ _ _ _ (c .new-in-slot .ensures) in
     record { fits = omega (arith, l .inv) }
 

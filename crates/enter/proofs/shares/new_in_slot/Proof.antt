@@ -38,7 +38,7 @@ part-is-new-end c = search needs
 is-new-requires : tie.Need-is-new-requires
 is-new-requires c κs = let a = c .before .before .before .before .before .before .args in
     let p = c .before .before .before .before .before .before .pre in
-    record { ranged = p .0 .ranged; keys-size = p .0 .keys-size; index-size = p .0 .index-size; points = _; sparse = p .0 .sparse; key-size = kept-size (a .head .d) (a .coords .now) (a .slot) (p .0 .ranged .d-most) (p .1) (p .0 .arrays .coords-size) }
+    record { points = _; seekable = p .0 .seekable; key-size = kept-size (a .head .d) (a .coords .now) (a .slot) (p .0 .seekable .ranged .d-most) (p .1) (p .0 .arrays .coords-size) }
 
 returns-2 : tie.Need-returns-2
 returns-2 c = λ v.
@@ -46,7 +46,7 @@ returns-2 c = λ v.
     let p = c .before .before .before .before .before .before .before .pre in
     news-one _ _ _ _ (c .is-new .ensures)
     (slot-one (a .head .d) (a .weights .now) (a .coords .now) v (a .slot) _ (pos (getD (a .weights .now) (a .slot) 0)) (pos (getD (a .weights .now) (a .slot) 0) *ℤ v)
-    (p .0 .ranged .d-most) (p .1) (p .0 .arrays .coords-size) (c .before .before .before .if1 .left) refl refl refl)
+    (p .0 .seekable .ranged .d-most) (p .1) (p .0 .arrays .coords-size) (c .before .before .before .if1 .left) refl refl refl)
 
 pub new-in-slot-spec : {M : Type 1} → statement M
 new-in-slot-spec =

@@ -9,7 +9,8 @@ use Rattle.table.specs.Pour.{news}
 use Rattle.table.specs.Heads.{settings, table}
 use Rattle.merge.proofs.Rows.{news-few}
 use Rattle.merge.proofs.Refusing.{BothFine, both-fine, other-d, other-S, many-readings, many-points, both-fit}
-use Rattle.merge.proofs.Merging.{stretches-of, seekable, counted-new}
+use Rattle.pour.proofs.Seeking.{seekable}
+use Rattle.merge.proofs.Merging.{stretches-of, counted-new}
 use Rattle.merge.proofs.judging.both_refusal.Statement.{statement}
 use Rattle.merge.proofs.judging.both_refusal.Tie as tie
 

@@ -6,7 +6,7 @@ use Rattle.table.specs.Table.{Settings, Table}
 use Rattle.table.specs.Sound.{sound}
 use Rattle.table.specs.Calls.{ranged, fits}
 use Rattle.table.specs.Heads.{settings, table}
-use Rattle.table.proofs.Answering.{passed, failed, T-of}
+use Rattle.table.proofs.Refusals.{passed, failed, T-of}
 use Rattle.table.proofs.Soundness.{to-ranged, to-shape}
 use Rattle.merge.proofs.Refusing.{out-of-range, source-out-of-range, length-other, source-length-other, unsound, source-unsound, each-sound}
 use Rattle.merge.proofs.judging.each_refusal.Statement.{statement}

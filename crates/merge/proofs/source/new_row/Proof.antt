@@ -29,7 +29,7 @@ is-new-requires : tie.Need-is-new-requires
 is-new-requires c κs =
     let s = c .before .before .before .before in
     let p = s .pre .0 in
-    record { ranged = p .ranged; keys-size = p .keys-size; index-size = p .index-size; points = s .args .head .points; sparse = p .sparse; key-size = stretch-size _ _ _ (s .pre .1) }
+    record { points = s .args .head .points; seekable = p; key-size = stretch-size _ _ _ (s .pre .1) }
 
 returns : tie.Need-returns
 returns c =

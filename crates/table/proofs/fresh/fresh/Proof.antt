@@ -4,7 +4,8 @@ use mathlib.Core.Path.{_≡_}
 use mathlib.Core.Bool.{true}
 use Rattle.table.specs.Table.{Settings}
 use Rattle.table.specs.Calls.{ranged, fits, lent}
-use Rattle.table.proofs.Answering.{passed, failed, T-of, fresh-one, fresh-two, fresh-made}
+use Rattle.table.proofs.Refusals.{passed, failed, T-of}
+use Rattle.table.proofs.Answering.{fresh-one, fresh-two, fresh-made}
 use Rattle.table.proofs.Soundness.{to-ranged}
 use Rattle.table.proofs.fresh.fresh.Statement.{statement}
 use Rattle.table.proofs.fresh.fresh.Tie as tie
