@@ -7,11 +7,10 @@ use native.Mathlib.Numerals.{add-one}
 use native.Mathlib.Omega.{arith}
 use lib.Dec.{eqb}
 use lib.IntN.{ℤ, pos, _*ℤ_}
-use lib.ListN.{length, getD, take, drop, length-drop}
-use lib.Seq.{getD-take, getD-drop, length-take-le}
+use lib.ListN.{length, getD, take, drop}
 use borrow.Author.Tests.{eq-eqb, ne-eqb}
 use Rattle.whole.specs.Lists.{at, tab, collect}
-use Rattle.whole.proofs.Lists.{tab-is, length-tab}
+use Rattle.whole.proofs.Lists.{length-tab, part-tab}
 use Rattle.simplex.specs.Slots.{slot}
 use Rattle.table.specs.Table.{Settings, Table, Row, found}
 use Rattle.table.specs.Pour.{pour, add, news}
@@ -23,17 +22,9 @@ use Rattle.table.proofs.Turns.{in-turn-part, holds-of}
 use Rattle.table.specs.declared.Head.{Head}
 use Rattle.table.specs.Heads.{settings, stored, Holds}
 
--- a part of a list, number by number
-part-tab : (l : List ℤ) (a n : ℕ) → a + n ≤ length l → take (a + n - a) (drop a l) ≡ tab n (λ i. at l (a + i))
-part-tab l a n h =
-    let q : a + n - a ≡ n = omega arith in
-    ap (λ (k : ℕ). take k (drop a l)) q ∙ tab-is n (λ i. at l (a + i)) (take n (drop a l)) (pos 0)
-    (length-take-le n (drop a l) (omega (arith, length-drop a l)))
-    (λ i h. getD-take n (drop a l) i (pos 0) h ∙ getD-drop a l i (pos 0))
-
 -- the numbers of slot k that are kept
 pub kept-part : (d : ℕ) (cs : List ℤ) (k : ℕ) → d ≤ 5 → k < suc d → length cs ≡ 36 → take (6 * k + d - 6 * k) (drop (6 * k) cs) ≡ take d (tab (suc d) (λ i. at cs (6 * k + i)))
-kept-part d cs k h l e = part-tab cs (6 * k) d (omega arith) ∙ sym (take-tab d (λ i. at cs (6 * k + i)))
+kept-part d cs k h l e = part-tab cs (6 * k) d (pos 0) (omega arith) ∙ sym (take-tab d (λ i. at cs (6 * k + i)))
 
 -- a slot of weight 0 has no row
 pub slot-none : (d : ℕ) (ws : List ℕ) (cs : List ℤ) (v : ℤ) (k : ℕ) → getD ws k 0 ≡ 0 → slotRows d ws cs v k ≡ []
@@ -109,7 +100,7 @@ pub count-few : (c : Settings) (t : Table) (d : ℕ) (ws : List ℕ) (cs : List 
 count-few c t d ws cs k b q = omega (arith, q (pos 0), slot-few c t d ws cs (pos 0) k)
 
 pub kept-size : (d : ℕ) (cs : List ℤ) (k : ℕ) → d ≤ 5 → k < suc d → length cs ≡ 36 → length (take (6 * k + d - 6 * k) (drop (6 * k) cs)) ≡ d
-kept-size d cs k h l e = ap length (part-tab cs (6 * k) d (omega arith)) ∙ length-tab d (λ i. at cs (6 * k + i))
+kept-size d cs k h l e = ap length (part-tab cs (6 * k) d (pos 0) (omega arith)) ∙ length-tab d (λ i. at cs (6 * k + i))
 
 -- the number of slots is named otherwise
 pub counts-at : (c : Settings) (t : Table) (d : ℕ) (ws : List ℕ) (cs : List ℤ) (k n a : ℕ) → k ≡ n → Counts c t (λ v. rowsTo d ws cs v k) a → Counts c t (λ v. rowsTo d ws cs v n) a

@@ -4,14 +4,13 @@ use mathlib.Core.List.{List, [], _∷_}
 use mathlib.Core.Bool.{Bool, true, false, _&&_}
 use Prim.Native.Nat.{ℕ, _+_, _-_, _*_, _<_, _≤_}
 use native.Mathlib.Numerals.{add-one}
-use native.Mathlib.Omega.{arith}
 use lib.Dec.{T, eqb, eqb→eq, eqb-refl}
-use lib.ListN.{length, take, drop, length-drop, drop-of-length-le}
-use lib.Seq.{drop-cons, length-take-le, getD-take, getD-drop}
+use lib.ListN.{length, take, drop, drop-of-length-le}
+use lib.Seq.{drop-cons}
 use lib.IntN.{ℤ, pos, negsuc}
 use Rattle.whole.specs.Lists.{at}
 use Rattle.whole.proofs.Tests.{and-l, and-r, and-i, T-true, T-false}
-use Rattle.whole.proofs.Lists.{length-tab, tab-is}
+use Rattle.whole.proofs.Lists.{length-tab, part-tab}
 use Rattle.index.specs.Keys.{eqZ, same, keyAt}
 
 -- ---- the tests and what they say
@@ -68,12 +67,7 @@ pub keyAt-length : (d : ℕ) (keys : List ℤ) (i : ℕ) → length (keyAt d key
 unfolding keyAt
 keyAt-length d keys i = length-tab d (λ j. at keys (d * i + j))
 
-pub key-stretch : (d : ℕ) (keys : List ℤ) (i : ℕ) → d * i + d ≤ length keys → take d (drop (d * i) keys) ≡ keyAt d keys i
-unfolding keyAt
-key-stretch d keys i p = tab-is d (λ j. at keys (d * i + j)) (take d (drop (d * i) keys)) (pos 0)
-    (length-take-le d (drop (d * i) keys) (rw (length-drop (d * i) keys) (omega arith)))
-    (λ j l. getD-take d (drop (d * i) keys) j (pos 0) l ∙ getD-drop (d * i) keys j (pos 0))
-
 -- a part from a to a + d, as the code lends it
 pub key-part : (d : ℕ) (keys : List ℤ) (i : ℕ) → d * i + d ≤ length keys → take (d * i + d - d * i) (drop (d * i) keys) ≡ keyAt d keys i
-key-part d keys i p = let q : d * i + d - d * i ≡ d = omega arith in rw q (key-stretch d keys i p)
+unfolding keyAt
+key-part d keys i p = part-tab keys (d * i) d (pos 0) p

@@ -7,6 +7,7 @@ use lib.IntN.{ℤ, pos, negsuc}
 use Rattle.whole.specs.Lists.{at, tab}
 use Rattle.whole.specs.Word.{modulus, word}
 
+-- whether two whole numbers are equal
 abbrev pub eqZ : ℤ → ℤ → Bool
 eqZ (pos a) (pos b) = eqb a b
 eqZ (pos a) (negsuc b) = false

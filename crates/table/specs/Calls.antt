@@ -38,7 +38,7 @@ fresh c = record { n = 0; m = 0; keys = replicate (c .d * c .C) (pos 0); sums = 
 
 -- "A refused fresh call hands back d, S and C as given, with n and m 0."
 unfoldable pub afterFresh : Settings → Table → Table
-afterFresh c t = elim (freshRefusal c t) [ zero ↦ fresh c | suc x ↦ record { n = 0; m = 0; keys = t .keys; sums = t .sums; index = t .index } ]
+afterFresh c t = elim (freshRefusal c t) [ zero ↦ fresh c | suc x ↦ lent (t .keys) (t .sums) (t .index) ]
 
 -- What enter answers: "how many it took, the number (0 if all), and the new head", with the table that it leaves.
 pub record Outcome : Type 0 where
@@ -46,6 +46,7 @@ pub record Outcome : Type 0 where
   pub number : ℕ
   pub table : Table
 
+-- with one reading more before it
 abbrev pub oneMore : Outcome → Outcome
 oneMore o = record { taken = suc (o .taken); number = o .number; table = o .table }
 
@@ -58,9 +59,11 @@ enterAll c t (r ∷ rs) = elim (refusal c t r) [ zero ↦ oneMore (enterAll c (e
 unfoldable pub callRefusal : Settings → Table → Bool → ℕ
 callRefusal c t more = first ((ranged c, settings-out-of-range) ∷ (fits c t && more, other-length) ∷ (sound c t, not-sound) ∷ [])
 
+-- "a list isn't whole items": readings of d+2 numbers
 abbrev pub enterRefusal : Settings → Table → List ℤ → ℕ
 enterRefusal c t l = callRefusal c t (eqb (length l % (c .d + 2)) 0)
 
+-- "1, 2, 3 for the whole call; then for each reading 4, 5, 6, 7, 8."
 unfoldable pub enter : Settings → Table → List ℤ → Outcome
 enter c t l = elim (enterRefusal c t l) [ zero ↦ enterAll c t (parsed (c .d) l) | suc x ↦ record { taken = 0; number = suc x; table = t } ]
 

@@ -6,6 +6,7 @@ use lib.IntN.{ℤ}
 use Rattle.table.specs.declared.Head.{Head}
 use Rattle.table.specs.Table.{Settings, Table}
 
+-- "(d, S, C, number of readings n, number of points m)": the first three
 abbrev pub settings : Head → Settings
 settings h = record { d = h .d; S = h .fineness; C = h .capacity }
 
@@ -13,6 +14,7 @@ settings h = record { d = h .d; S = h .fineness; C = h .capacity }
 abbrev pub stored : Head → ℕ → List ℤ → List ℤ → List ℕ → Table
 stored h m keys sums index = record { n = h .readings; m = m; keys = keys; sums = sums; index = index }
 
+-- and with as many as the head says
 abbrev pub table : Head → List ℤ → List ℤ → List ℕ → Table
 table h keys sums index = stored h (h .points) keys sums index
 

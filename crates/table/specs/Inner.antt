@@ -43,6 +43,7 @@ pub record Kept (c : Settings) (t : Table) : Type 0 where
 abbrev pub weighedRow : ℕ → ℤ → List ℤ × ℕ → Row
 weighedRow d v p = record { key = take d (p .0); mass = pos (p .1); value = pos (p .1) *ℤ v }
 
+-- the mass of a row, to sum over rows
 abbrev pub massOf : Row → ℤ
 massOf r = r .mass
 

@@ -33,6 +33,7 @@ raise t i r = record {
   index = t .index;
 }
 
+-- which of the two, by what the search for the key found
 abbrev pub addAt : Settings → Table → Row → ℕ → Table
 addAt c t r zero = append c t (seek c t (r .key)) r
 addAt c t r (suc i) = raise t i r
@@ -54,5 +55,6 @@ news c t (r ∷ rs) = cond (eqb (found c t (r .key)) 0) 1 0 + news c t rs
 abbrev pub counted : ℕ → Table → Table
 counted k t = record { n = t .n + k; m = t .m; keys = t .keys; sums = t .sums; index = t .index }
 
+-- rows poured that stand for k readings
 abbrev pub accept : Settings → Table → List Row → ℕ → Table
 accept c t rs k = counted k (pour c t rs)

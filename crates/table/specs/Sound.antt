@@ -30,6 +30,7 @@ oneRemainder d y = all (suc d) (λ j. eqb (remainder (at y j) (suc d)) (remainde
 abbrev pub allReached : ℕ → List ℤ → Bool
 allReached d y = all (suc d) (λ j. leb (natAbs (at y j)) farthest-point)
 
+-- both, of the whole point that a key stands for
 unfoldable pub goodKey : ℕ → List ℤ → Bool
 goodKey d k = oneRemainder d (whole k) && allReached d (whole k)
 
@@ -37,6 +38,7 @@ goodKey d k = oneRemainder d (whole k) && allReached d (whole k)
 unfoldable pub goodPair : ℤ → ℤ → Bool
 goodPair m v = leZ (pos 1) m && within (pos most-value *ℤ m) v
 
+-- what is asked of each stored point
 abbrev pub good : ℕ → Row → Bool
 good d r = goodKey d (r .key) && goodPair (r .mass) (r .value)
 

@@ -8,6 +8,7 @@ use Rattle.whole.specs.Lists.{at, tab}
 use Rattle.index.specs.Keys.{keyAt}
 use Rattle.index.specs.Search.{entryAt, search}
 
+-- "Dimension d", "Fineness S", "Capacity C"
 pub record Settings : Type 0 where
   pub d : ℕ
   pub S : ℕ
@@ -28,15 +29,18 @@ pub record Row : Type 0 where
   pub mass : ℤ
   pub value : ℤ
 
+-- "keys": the d kept coordinates of point i
 abbrev pub key : Settings → Table → ℕ → List ℤ
 key c t i = keyAt (c .d) (t .keys) i
 
+-- "sums (…: mass, then value sum)": the pair of point i
 abbrev pub mass : Table → ℕ → ℤ
 mass t i = at (t .sums) (2 * i)
 
 abbrev pub value : Table → ℕ → ℤ
 value t i = at (t .sums) (2 * i + 1)
 
+-- point i with its pair
 abbrev pub row : Settings → Table → ℕ → Row
 row c t i = record { key = key c t i; mass = mass t i; value = value t i }
 
@@ -48,6 +52,7 @@ rows c t = tab (t .m) (row c t)
 unfoldable pub whole : List ℤ → List ℤ
 whole k = k ++ (negℤ (over k (λ z. z)) ∷ [])
 
+-- what the index has at a place
 abbrev pub entry : Table → ℕ → ℕ
 entry t p = entryAt (t .index) p
 

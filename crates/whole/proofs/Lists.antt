@@ -89,6 +89,17 @@ module _ {A : Type 0} where
   pub back : (a : ℕ) (l v w : List A) → w ≡ v → putMid a (a + length v - a) l w ≡ splice l a v
   back a l v w e = rw e (ap (λ (t : List A). take a l ++ (v ++ t)) (rest a (length v) l))
 
+  -- ---- a part as it is lent, place by place
+  pub part-tab : (l : List A) (a n : ℕ) (z : A) → a + n ≤ length l → take (a + n - a) (drop a l) ≡ tab n (λ i. getD l (a + i) z)
+  part-tab l a n z h =
+      let q : a + n - a ≡ n = omega arith in
+      ap (λ (k : ℕ). take k (drop a l)) q ∙ tab-is n (λ i. getD l (a + i) z) (take n (drop a l)) z
+      (length-take-le n (drop a l) (omega (arith, length-drop a l)))
+      (λ i h. getD-take n (drop a l) i z h ∙ getD-drop a l i z)
+
+  pub part-length : (l : List A) (a n : ℕ) → a + n ≤ length l → length (take (a + n - a) (drop a l)) ≡ n
+  part-length l a n h = let q : a + n - a ≡ n = omega arith in ap (λ (k : ℕ). length (take k (drop a l))) q ∙ length-take-le n (drop a l) (omega (arith, length-drop a l))
+
   -- ---- lists one after the other
   pub collect-cong : (n : ℕ) (g h : ℕ → List A) → ((k : ℕ) → k < n → g k ≡ h k) → collect n g ≡ collect n h
   unfolding collect
