@@ -1,16 +1,19 @@
 // The small numbers of document 01, run through the compiled library. A position is printed with the
 // points of weight above 0 for it and their weights, or with the number by which it is refused; a
 // quotient with what it is rounded to; a division with its remainder; a list of readings with how many
-// were taken, the number, and the table. What this prints is held to the file stdout beside src/. Its
+// were taken, the number, and the table; and the filter with its sheets and answers. What this prints is
+// held to the file stdout beside src/. Its
 // numbers are the document's, but for the one point of (1000000,-1000000): the document says only that
 // it is taken, and as a lattice point it has all of W.
 ghost use mathlib.Core.Path.{_≡_};
 ghost use Prim.Native.Nat.{_<_, _≤_};
 ghost use lib.ListN.{length};
 
+mod filtered;
 mod print;
 mod tables;
 
+use crate::filtered::show_filtered;
 use crate::print::print_number;
 use crate::print::print_numbers;
 use crate::tables::show_entered;
@@ -129,4 +132,11 @@ fn main() {
     show_entered(&[1000000, -1000000, 0], 1);
     show_entered(&[1000001, 0, 0], 1);
     show_entered(&[5, -4, 0], 1);
+    show_filtered(
+        &[3, -3, 10, 2, -2, 4],
+        &[3, -3, 4, -4, 100, -100, 1000001, 0, 5, -4],
+        2,
+    );
+    show_filtered(&[], &[3, -3, 4, -4, 100, -100, 1000001, 0, 5, -4], 2);
+    show_filtered(&[3, -3, 10], &[3, -3], 2);
 }

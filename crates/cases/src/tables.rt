@@ -8,7 +8,7 @@ use table::Head;
 use table::fresh::fresh;
 
 // A coordinate, a mass or a value sum; those of the cases are far within 32 bits.
-fn print_small(x: i64) {
+pub fn print_small(x: i64) {
     if x < -1000000000 {
         return;
     }
@@ -18,7 +18,7 @@ fn print_small(x: i64) {
     print_number(x as i32);
 }
 
-fn print_count(n: usize) {
+pub fn print_count(n: usize) {
     io::write_all(STDOUT_FILENO, b" ");
     io::print_decimal(STDOUT_FILENO, n as u64);
 }
@@ -69,7 +69,7 @@ fn print_table(head: Head, keys: &[i32], sums: &[i64], index: &[u16], order: &mu
 }
 
 // A list of readings entered into a fresh table: how many were taken, and the number.
-fn enter_fresh(
+pub fn enter_fresh(
     fineness: u32,
     capacity: usize,
     keys: &mut [i32],

@@ -12,19 +12,16 @@ use borrow.Author.Tests.{eq-eqb, ne-eqb}
 use Rattle.whole.specs.Lists.{at, tab, collect}
 use Rattle.whole.proofs.Lists.{length-tab, part-tab}
 use Rattle.simplex.specs.Slots.{slot}
+use Rattle.simplex.proofs.Slots.{kept-part}
 use Rattle.table.specs.Table.{Settings, Table, Row, found}
 use Rattle.table.specs.Pour.{pour, add, news}
 use Rattle.table.specs.Inner.{Addable, InTurn, weighedRow}
 use Rattle.enter.specs.Slots.{slotRows, rowsTo, Counts}
-use Rattle.table.proofs.Lists.{take-tab, collect-parts}
+use Rattle.table.proofs.Lists.{collect-parts}
 use Rattle.table.proofs.Pouring.{news-append}
 use Rattle.table.proofs.Turns.{in-turn-part, holds-of}
 use Rattle.table.specs.declared.Head.{Head}
 use Rattle.table.specs.Heads.{settings, stored, Holds}
-
--- the numbers of slot k that are kept
-pub kept-part : (d : ℕ) (cs : List ℤ) (k : ℕ) → d ≤ 5 → k < suc d → length cs ≡ 36 → take (6 * k + d - 6 * k) (drop (6 * k) cs) ≡ take d (tab (suc d) (λ i. at cs (6 * k + i)))
-kept-part d cs k h l e = part-tab cs (6 * k) d (pos 0) (omega arith) ∙ sym (take-tab d (λ i. at cs (6 * k + i)))
 
 -- a slot of weight 0 has no row
 pub slot-none : (d : ℕ) (ws : List ℕ) (cs : List ℤ) (v : ℤ) (k : ℕ) → getD ws k 0 ≡ 0 → slotRows d ws cs v k ≡ []

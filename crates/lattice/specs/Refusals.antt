@@ -44,3 +44,11 @@ too-many-points = 8
 -- "9: merge: d or S differ"
 abbrev pub settings-differ : ℕ
 settings-differ = 9
+
+-- "10: no stored point has weight above 0 for the query"
+abbrev pub no-point-met : ℕ
+no-point-met = 10
+
+-- "11: one has, but the blurred mass sum is 0"
+abbrev pub no-mass-met : ℕ
+no-mass-met = 11

@@ -26,3 +26,9 @@ pub const TOO_MANY_POINTS: u8 = 8;
 
 // Merge: d or S differ.
 pub const SETTINGS_DIFFER: u8 = 9;
+
+// No stored point has weight above 0 for the query.
+pub const NO_POINT_MET: u8 = 10;
+
+// One has, but the blurred mass sum is 0.
+pub const NO_MASS_MET: u8 = 11;

@@ -7,7 +7,7 @@ ghost use Rattle.table.specs.Inner.{Addable};
 ghost use Rattle.table.specs.Pour.{append, add};
 ghost use Rattle.pour.specs.Inner.{Appendable, Sought, oneIfNew};
 
-mod pair;
+pub mod pair;
 mod stretch;
 
 use crate::pair::raise_pair;

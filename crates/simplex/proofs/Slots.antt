@@ -7,12 +7,13 @@ use native.Mathlib.Nat.{le-refl}
 use native.Mathlib.Decide.{decLt}
 use native.Mathlib.Omega.{arith}
 use lib.IntN.{ℤ, pos, _-ℤ_}
-use lib.ListN.{length, getD, set}
+use lib.ListN.{length, getD, set, take, drop}
+use lib.Seq.{length-take-le, getD-take}
 use borrow.Author.Tests.{eq-eqb, ne-eqb}
 use Rattle.whole.specs.Floor.{floor, remainder}
 use Rattle.whole.specs.Lists.{at, tab, splice}
 use Rattle.whole.proofs.Floor.{remainder-lt}
-use Rattle.whole.proofs.Lists.{length-tab, getD-tab, set-tab, tab-is, length-splice, getD-splice-before, getD-splice-in, getD-splice-after, collect-cong, map-collect}
+use Rattle.whole.proofs.Lists.{length-tab, getD-tab, set-tab, tab-is, length-splice, getD-splice-before, getD-splice-in, getD-splice-after, part-tab, collect-cong, map-collect}
 use Rattle.lattice.specs.Lattice.{remainderOf}
 use Rattle.lattice.specs.Weight.{W, weight}
 use Rattle.lattice.specs.Points.{cornerAt, corner, lastOf, cornerOf, points, weighed}
@@ -163,3 +164,12 @@ weights-length E = rw (E .weights-are) (length-tab 6 _)
 pub coords-length : {d S : ℕ} {x : List ℤ} {ws : List ℕ} {cs : List ℤ} → Encloses d S x ws cs → length cs ≡ 36
 unfolding slotCoords
 coords-length E = rw (E .coords-are) (length-tab 36 _)
+
+-- the coordinates of slot k that are kept, as they are lent
+pub kept-part : (d : ℕ) (cs : List ℤ) (k : ℕ) → d ≤ 5 → k < suc d → length cs ≡ 36 → take (6 * k + d - 6 * k) (drop (6 * k) cs) ≡ take d (tab (suc d) (λ i. at cs (6 * k + i)))
+kept-part d cs k h l e = part-tab cs (6 * k) d (pos 0) (omega arith)
+    ∙ sym (tab-is d f (take d (tab (suc d) f)) (pos 0) (length-take-le d (tab (suc d) f) (omega (arith, length-tab (suc d) f)))
+    (λ i q. getD-take d (tab (suc d) f) i (pos 0) q ∙ getD-tab (suc d) f i (pos 0) (omega arith)))
+  where
+    f : ℕ → ℤ
+    f i = at cs (6 * k + i)

@@ -21,7 +21,8 @@ fn clear_keys(keys: &mut [i32])
     }
 }
 
-fn clear_sums(sums: &mut [i64])
+// Sums, or a work sheet of as many numbers, filled with 0.
+pub fn clear_sums(sums: &mut [i64])
     ensures { λ r. ⌜ now (sums .exit) ≡ replicate (length (now (sums .entry))) (pos 0) ⌝ }
 {
     let n = sums.len();

@@ -1,0 +1,10 @@
+pub mod Copying
+pub mod Passes
+pub mod Neighbours
+pub mod Sheets
+pub mod Theorems
+pub mod Moving
+pub mod Looking
+pub mod Passing
+pub mod Turning
+pub mod Blurring

@@ -1,0 +1,9 @@
+pub mod Weighing
+pub mod Bounds
+pub mod Answers
+pub mod Theorems
+pub mod Slots
+pub mod Quotient
+pub mod Replying
+pub mod Queries
+pub mod Calling

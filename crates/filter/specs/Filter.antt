@@ -1,0 +1,60 @@
+-- The call: "Filter takes a table, two work sheets of 2·C signed 64-bit numbers, queries, and two lists of one value (signed 32-bit) and one code
+-- (a byte) per query."
+use mathlib.Core.Path.{_≡_}
+use mathlib.Core.Bool.{Bool, _&&_}
+use mathlib.Core.List.{List}
+use Prim.Native.Nat.{ℕ, zero, suc, _+_, _*_, _/_, _%_}
+use lib.Dec.{eqb}
+use lib.IntN.{ℤ}
+use lib.ListN.{length}
+use Rattle.whole.specs.Lists.{at, tab}
+use Rattle.table.specs.Table.{Settings, Table}
+use Rattle.table.specs.Calls.{callRefusal}
+use Rattle.blur.specs.Sheet.{blurredSheet, clearSheet}
+use Rattle.filter.specs.Answer.{code, answer}
+
+-- what is lent to be written
+pub record Lent : Type 0 where
+  pub first : List ℤ
+  pub second : List ℤ
+  pub values : List ℤ
+  pub codes : List ℕ
+
+-- query j of a list of d+1 coordinates each
+abbrev pub queryAt : ℕ → List ℤ → ℕ → List ℤ
+queryAt d l j = tab (suc d) (λ i. at l (suc d * j + i))
+
+-- how many there are
+abbrev pub queriesIn : ℕ → ℕ → ℕ
+queriesIn d numbers = numbers / suc d
+
+-- "two work sheets of 2·C", whole queries, and "one value … and one code … per query": of slices of so many numbers
+unfoldable pub lentFits : ℕ → ℕ → ℕ → ℕ → ℕ → ℕ → ℕ → Bool
+lentFits d C first second queries values codes =
+    eqb first (2 * C) && eqb second (2 * C) && eqb (queries % suc d) 0 && (eqb values (queriesIn d queries) && eqb codes (queriesIn d queries))
+
+-- "1, 2, 3 for the call"
+abbrev pub filterRefusal : Settings → Table → List ℤ → Lent → ℕ
+filterRefusal c t queries l = callRefusal c t (lentFits (c .d) (c .C) (length (l .first)) (length (l .second)) (length queries) (length (l .values)) (length (l .codes)))
+
+-- what is left where the call is done: each query's value and code, and "Afterwards the first 2·m numbers of the first sheet hold the blurred pairs
+-- in stored order; every other number of both sheets is 0."
+unfoldable pub filtered : Settings → Table → List ℤ → Lent
+filtered c t queries = record {
+  first = blurredSheet c t;
+  second = clearSheet c;
+  values = tab (queriesIn (c .d) (length queries)) (λ j. answer c t (queryAt (c .d) queries j));
+  codes = tab (queriesIn (c .d) (length queries)) (λ j. code c t (queryAt (c .d) queries j));
+}
+
+-- "A call refused as a whole … changes no lent memory."
+unfoldable pub afterFilter : Settings → Table → List ℤ → Lent → Lent
+afterFilter c t queries l = elim (filterRefusal c t queries l) [ zero ↦ filtered c t queries | suc x ↦ l ]
+
+-- The call's number, and the memory that it leaves.
+pub record Filters (c : Settings) (t : Table) (queries : List ℤ) (l : Lent) (number : ℕ) (first second values : List ℤ) (codes : List ℕ) : Type 0 where
+  pub number-is : number ≡ filterRefusal c t queries l
+  pub first-is : first ≡ afterFilter c t queries l .first
+  pub second-is : second ≡ afterFilter c t queries l .second
+  pub values-are : values ≡ afterFilter c t queries l .values
+  pub codes-are : codes ≡ afterFilter c t queries l .codes

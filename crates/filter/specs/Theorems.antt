@@ -1,0 +1,66 @@
+-- What is true of the answers. Statements: the proofs stand in proofs/.
+use mathlib.Core.Path.{_≡_}
+use mathlib.Core.List.{List}
+use Prim.Native.Nat.{ℕ, suc}
+use lib.Dec.{T}
+use lib.IntN.{ℤ}
+use lib.ListN.{length}
+use Rattle.whole.specs.Size.{Abs≤, Within}
+use Rattle.lattice.specs.Refusals.{no-mass-met}
+use Rattle.table.specs.Table.{Settings, Table, held}
+use Rattle.table.specs.Reading.{Reading, refusal, entered}
+use Rattle.table.specs.Calls.{ranged, fresh, mergeRefusal, merged}
+use Rattle.table.specs.Theorems.{Usable}
+use Rattle.blur.specs.Blur.{masses, values, blurredMass, blurredValue}
+use Rattle.blur.specs.Theorems.{Between}
+use Rattle.filter.specs.Answer.{weighted, code, answer}
+use Rattle.filter.specs.Filter.{Lent, Filters}
+
+-- 11 is never met on a sound table
+abbrev pub NeverEleven : Type 0
+NeverEleven = (c : Settings) (t : Table) → Usable c t → (q : List ℤ) → length q ≡ suc (c .d) → code c t q ≡ no-mass-met → ⊥
+
+-- every value entered lies between lo and hi: then each value sum of the table lies between lo and hi times its mass. So it is in a fresh table,
+abbrev pub ValuesBetween : ℤ → ℤ → Settings → Table → Type 0
+ValuesBetween lo hi c t = Between lo hi (masses c t) (values c t)
+
+abbrev pub FreshBetween : Type 0
+FreshBetween = (lo hi : ℤ) (c : Settings) → T (ranged c) → ValuesBetween lo hi c (fresh c)
+
+-- after a reading whose value does,
+abbrev pub EnterBetween : Type 0
+EnterBetween = (lo hi : ℤ) (c : Settings) (t : Table) (r : Reading) → length (r .place) ≡ suc (c .d) → Usable c t → refusal c t r ≡ 0
+    → ValuesBetween lo hi c t → Within lo hi (r .value) → ValuesBetween lo hi c (entered c t r)
+
+-- and after a merge of two such tables;
+abbrev pub MergeBetween : Type 0
+MergeBetween = (lo hi : ℤ) (c : Settings) (t : Table) (b : Settings) (s : Table) → mergeRefusal c t b s ≡ 0
+    → ValuesBetween lo hi c t → ValuesBetween lo hi b s → ValuesBetween lo hi c (merged c t b s)
+
+-- and an answer given lies between lo and hi
+abbrev pub AnswerBetween : Type 0
+AnswerBetween = (lo hi : ℤ) (c : Settings) (t : Table) → Usable c t → ValuesBetween lo hi c t
+    → (q : List ℤ) → length q ≡ suc (c .d) → code c t q ≡ 0 → Within lo hi (answer c t q)
+
+-- "384·4,096·1,000,000·4^6·384 is below 2.5·10^18": nothing leaves 64 bits
+pub record SumsFit (c : Settings) (t : Table) (q : List ℤ) : Type 0 where
+  pub mass-fits : Abs≤ (weighted c t (blurredMass c t) q) 2500000000000000000
+  pub value-fits : Abs≤ (weighted c t (blurredValue c t) q) 2500000000000000000
+
+abbrev pub AnswersFit : Type 0
+AnswersFit = (c : Settings) (t : Table) → Usable c t → (q : List ℤ) → SumsFit c t q
+
+-- the answer and the code at a place depend only on the table's map, not on the order in which points are stored, nor on the room
+pub record SameAnswer (c : Settings) (t : Table) (b : Settings) (s : Table) (q : List ℤ) : Type 0 where
+  pub same-code : code c t q ≡ code b s q
+  pub same-value : answer c t q ≡ answer b s q
+
+abbrev pub AnswerOfMap : Type 0
+AnswerOfMap = (c : Settings) (t : Table) (b : Settings) (s : Table) → Usable c t → Usable b s → c .d ≡ b .d → c .S ≡ b .S
+    → ((y : List ℤ) → held c t y ≡ held b s y) → (q : List ℤ) → SameAnswer c t b s q
+
+-- "two outcomes allowed by a contract are equal"
+abbrev pub FiltersOnce : Type 0
+FiltersOnce = (c : Settings) (t : Table) (queries : List ℤ) (l : Lent) (number number′ : ℕ) (first first′ second second′ values values′ : List ℤ) (codes codes′ : List ℕ)
+    → Filters c t queries l number first second values codes → Filters c t queries l number′ first′ second′ values′ codes′
+    → (number ≡ number′) × (first ≡ first′) × (second ≡ second′) × (values ≡ values′) × (codes ≡ codes′)
