@@ -18,6 +18,7 @@ use Rattle.blur.proofs.Neighbours.{kept-at}
 use Rattle.blur.proofs.Copying.{copied-length, copied-in, copied-past}
 use Rattle.blur.proofs.Sheets.{zeros, each-place}
 use Rattle.blur.proofs.Turning.{own-sheet, own-sheets}
+use Rattle.blur.proofs.Stored.{fine-readable, sheet-readable}
 
 -- a stored point's key can be moved
 good-movable : (d : ℕ) (r : Row) → d ≤ most-d → Good d r → Movable (r .key)
@@ -28,7 +29,7 @@ good-movable d r h G = record {
 
 module _ (c : Settings) (t : Table) (first second : List ℤ) (S : Sheets c t first second) where
   sound-readable : Readable c t
-  sound-readable = record { ranged = S .fine .ranged; shape = S .fine .shape; indexed = S .fine .sound .indexed }
+  sound-readable = fine-readable c t (S .fine)
 
   -- ---- the first sheet l, cleared and given the first 2·m sums
   module _ {clear l : List ℤ} (z : clear ≡ replicate (length first) (pos 0)) (e : l ≡ splice clear 0 (take (2 * t .m) (t .sums))) where
@@ -55,11 +56,7 @@ module _ (c : Settings) (t : Table) (first second : List ℤ) (S : Sheets c t fi
 
     pub blurrable : {to : List ℤ} → length to ≡ length second → Blurrable c (withSums t l) to
     blurrable h = record {
-      readable = record {
-        ranged = S .fine .ranged;
-        shape = record { keys = S .fine .shape .keys; sums = size; index = S .fine .shape .index };
-        indexed = S .fine .sound .indexed;
-      };
+      readable = sheet-readable c t l sound-readable size;
       movable = λ i h. good-movable (c .d) (row c t i) (S .fine .ranged .d-most) (S .fine .sound .good i h);
       small = small;
       rest = rest;

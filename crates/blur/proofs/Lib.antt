@@ -1,6 +1,7 @@
 pub mod Copying
 pub mod Passes
 pub mod Neighbours
+pub mod Stored
 pub mod Sheets
 pub mod Theorems
 pub mod Moving

@@ -32,12 +32,16 @@ use Rattle.table.specs.Calls.{ranged, fits, fresh, enterAll, callRefusal, enter
 use Rattle.blur.specs.Blur.{plusStep, minusStep, pass, passes, step, massAfter, valueAfter}
 use Rattle.blur.specs.Theorems.{Between}
 use Rattle.blur.specs.Sheet.{sheet}
-use Rattle.blur.specs.Worked.{BlurCases}
+use Rattle.blur.specs.Worked.{BlurCases, AxisCases}
 
--- ---- the worked log
+-- ---- the worked log, and two axes
 pub blur-cases : BlurCases
 unfolding floor remainder sum over all tab collect word first allNear sumsToZero best spread weight corner lastOf points same keyAt hash home walk sought count sparse finding rows whole goodKey goodPair indexed sound setPair append raise pour news parsed shares refusal ranged fits fresh enterAll callRefusal enter step plusStep minusStep pass passes massAfter valueAfter sheet
 blur-cases = record { mass-at-one = refl; value-at-one = refl; mass-at-two = refl; value-at-two = refl; in-stored-order = refl }
+
+pub axis-cases : AxisCases
+unfolding floor remainder sum over all tab collect word first allNear sumsToZero best spread weight corner lastOf points same keyAt hash home walk sought count sparse finding rows whole goodKey goodPair indexed sound setPair append raise pour news parsed shares refusal ranged fits fresh enterAll callRefusal enter step plusStep minusStep pass passes massAfter valueAfter sheet
+axis-cases = record { own-pairs = refl; after-pass-0 = refl; after-pass-1 = refl; after-pass-2 = refl }
 
 -- ---- the numbers after passes depend only on which points are stored and on the numbers before
 pub passes-cong : (stored other : List ℤ → Bool) (d n : ℕ) (f g : List ℤ → ℤ) → ((y : List ℤ) → stored y ≡ other y) → ((y : List ℤ) → f y ≡ g y)

@@ -8,7 +8,6 @@ use native.Mathlib.Decide.{ℕ-discrete}
 use native.Mathlib.Omega.{arith}
 use lib.IntN.{ℤ, pos, _+ℤ_, _*ℤ_}
 use lib.ListN.{length, take, drop}
-use borrow.Author.Tests.{lt-ltb}
 use mir.Syntax.{w64}
 use mir.Val.{SFits}
 use mir.Facts.{toZ-ofZ}
@@ -17,11 +16,12 @@ use Rattle.whole.specs.Lists.{at}
 use Rattle.whole.proofs.Parts.{sfits-make}
 use Rattle.whole.proofs.Readings.{W64}
 use Rattle.index.proofs.Equality.{keyAt-length, key-part}
-use Rattle.table.specs.Table.{Settings, Table, key, found, pairAt}
+use Rattle.table.specs.Table.{Settings, Table, key, found, pairAt, held}
 use Rattle.table.specs.Pour.{setPair}
 use Rattle.table.proofs.Store.{pair-length, pair-mass, pair-value, pair-else}
 use Rattle.blur.specs.Blur.{plusStep, minusStep, pass, isStored, masses, values}
 use Rattle.blur.specs.Inner.{most-blurred, Movable, neighbourOf, PairIs, Passable, NewPair, Passed}
+use Rattle.blur.proofs.Stored.{own-stored, own-pair}
 
 -- ---- numbers of a sheet
 -- each is small enough to be what is read back from its bits
@@ -86,14 +86,8 @@ module _ (c : Settings) (t : Table) (Q : Passable c t) (i : ℕ) (l : i < t .m) 
       here = let n : c .d - 0 ≡ length part = omega (arith, size) in ap (λ (n : ℕ). take n ns) n ∙ e ∙ ap₂ (λ (n : ℕ) (y : List ℤ). neighbourOf plus n k y) size part-is
 
   -- ---- its pair
-  own-stored : isStored c t (key c t i) ≡ true
-  own-stored = lt-ltb 0 (found c t (key c t i)) (omega (arith, Q .readable .indexed .finds i l))
-
-  own-mass : masses c t (key c t i) ≡ at (t .sums) (2 * i)
-  own-mass = ap (λ (n : ℕ). pairAt (t .sums) n .0) (Q .readable .indexed .finds i l)
-
-  own-value : values c t (key c t i) ≡ at (t .sums) (2 * i + 1)
-  own-value = ap (λ (n : ℕ). pairAt (t .sums) n .1) (Q .readable .indexed .finds i l)
+  own : held c t (key c t i) ≡ (at (t .sums) (2 * i), at (t .sums) (2 * i + 1))
+  own = own-pair c t (Q .readable) i l
 
   -- and its new pair, from those of the neighbours
   module _ (k : ℕ) {stored₁ stored₂ : Bool} {mass₁ value₁ mass₂ value₂ : ℤ} (P : PairIs c t (neighbourOf true (c .d) k (key c t i)) stored₁ mass₁ value₁)
@@ -108,9 +102,9 @@ module _ (c : Settings) (t : Table) (Q : Passable c t) (i : ℕ) (l : i < t .m) 
         → value ≡ pos 2 *ℤ W64 (at (t .sums) (2 * i + 1)) +ℤ W64 value₁ +ℤ W64 value₂ → NewPair c t k (key c t i) (W64 mass) (W64 value)
     new-pair f g m v = record {
       mass-is = blended (Q .small (2 * i)) (mass-small c t Q P) (mass-small c t Q M) f m
-          ∙ sum (sym own-mass) (P .mass-is) (M .mass-is) ∙ sym (pass-stored (isStored c t) (c .d) k (masses c t) (key c t i) own-stored);
+          ∙ sum (sym (ap (λ (p : ℤ × ℤ). p .0) own)) (P .mass-is) (M .mass-is) ∙ sym (pass-stored (isStored c t) (c .d) k (masses c t) (key c t i) (own-stored c t (Q .readable) i l));
       value-is = blended (Q .small (2 * i + 1)) (value-small c t Q P) (value-small c t Q M) g v
-          ∙ sum (sym own-value) (P .value-is) (M .value-is) ∙ sym (pass-stored (isStored c t) (c .d) k (values c t) (key c t i) own-stored);
+          ∙ sum (sym (ap (λ (p : ℤ × ℤ). p .1) own)) (P .value-is) (M .value-is) ∙ sym (pass-stored (isStored c t) (c .d) k (values c t) (key c t i) (own-stored c t (Q .readable) i l));
     }
       where
         sum : {x y z x′ y′ z′ : ℤ} → x ≡ x′ → y ≡ y′ → z ≡ z′ → pos 2 *ℤ x +ℤ y +ℤ z ≡ pos 2 *ℤ x′ +ℤ y′ +ℤ z′

@@ -1,26 +1,27 @@
 -- The statements of specs/Theorems.antt, proved; that the steps stay in the lattice stands in Neighbours.antt. And what callers use of them: what a
 -- table has at points that are not stored, and bounds that all passes keep.
-use mathlib.Core.Path.{_≡_, refl, sym, ap, _∙_, subst}
+use mathlib.Core.Path.{_≡_, sym, ap, _∙_}
 use mathlib.Core.Bool.{false}
 use mathlib.Core.List.{List}
-use Prim.Native.Nat.{ℕ, zero, suc, _*_, _<_}
+use Prim.Native.Nat.{ℕ, _*_}
 use native.Mathlib.Omega.{arith}
 use lib.IntN.{ℤ, pos}
 use lib.Signed.{_≤ℤ_, ≤ℤ-refl}
-use lib.Dec.{T, ltb, ltb→lt, lt→ltb}
+use lib.Dec.{T, ltb→lt, lt→ltb}
 use Rattle.whole.specs.Size.{Abs≤}
 use Rattle.whole.proofs.Parts.{le-out}
 use Rattle.whole.proofs.Ring.{le-trans}
 use Rattle.whole.proofs.Tests.{T-ext}
 use Rattle.lattice.specs.Limits.{most-value, most-readings, most-W}
-use Rattle.table.specs.Table.{Settings, Table, found, pairAt, held}
+use Rattle.table.specs.Table.{Settings, Table, found, held}
 use Rattle.table.specs.Theorems.{Usable}
-use Rattle.table.proofs.Soundness.{to-fine, fine-kept}
-use Rattle.table.proofs.Adding.{low-found}
+use Rattle.table.proofs.Soundness.{to-fine}
 use Rattle.table.proofs.Theorems.{stored-exactly, sums-small}
 use Rattle.blur.specs.Blur.{passes, isStored, masses, values, massAfter, valueAfter}
+use Rattle.blur.specs.Inner.{Readable}
 use Rattle.blur.specs.Theorems.{PassLinear, PassesLinear, Between, PassKeepsBetween, PassDoubles, MassAbove, BlurSmall, SheetHolds, BlurOfMap}
 use Rattle.blur.proofs.Passes.{passes-cong, pass-add, pass-times, pass-twice, pass-between, passes-off, passes-add, passes-times, passes-above, passes-small, passes-keep-between}
+use Rattle.blur.proofs.Stored.{fine-readable, not-stored, every-pair}
 use Rattle.blur.proofs.Sheets.{sheet-held}
 
 -- ---- one pass, and the first n
@@ -37,20 +38,15 @@ pub pass-doubles : PassDoubles
 pass-doubles = pass-twice
 
 -- ---- any table
--- what is not found has the pair of 0
-pub not-found : (sums : List ℤ) (e : ℕ) → ltb 0 e ≡ false → pairAt sums e ≡ (pos 0, pos 0)
-not-found sums zero h = refl
-not-found sums (suc i) h = absurd (subst T h (lt→ltb 0 (suc i) (omega arith)))
-
 module _ (c : Settings) (t : Table) where
   -- what is not stored has 0 after any number of passes
   pub mass-off : (n : ℕ) (y : List ℤ) → isStored c t y ≡ false → massAfter c t n y ≡ pos 0
   unfolding massAfter
-  mass-off = passes-off (isStored c t) (c .d) (masses c t) (λ y h. ap (λ (p : ℤ × ℤ). p .0) (not-found (t .sums) (found c t y) h))
+  mass-off = passes-off (isStored c t) (c .d) (masses c t) (λ y h. ap (λ (p : ℤ × ℤ). p .0) (not-stored c t y h))
 
   pub value-off : (n : ℕ) (y : List ℤ) → isStored c t y ≡ false → valueAfter c t n y ≡ pos 0
   unfolding valueAfter
-  value-off = passes-off (isStored c t) (c .d) (values c t) (λ y h. ap (λ (p : ℤ × ℤ). p .1) (not-found (t .sums) (found c t y) h))
+  value-off = passes-off (isStored c t) (c .d) (values c t) (λ y h. ap (λ (p : ℤ × ℤ). p .1) (not-stored c t y h))
 
   -- value sums between lo and hi times the mass stay so
   pub after-between : (lo hi : ℤ) → Between lo hi (masses c t) (values c t) → (n : ℕ) → Between lo hi (massAfter c t n) (valueAfter c t n)
@@ -59,22 +55,17 @@ module _ (c : Settings) (t : Table) where
 
 -- ---- a sound table
 module _ (c : Settings) (t : Table) (U : Usable c t) where
-  -- what holds of 0 and of every stored pair holds of what is held
-  held-all : (Q : ℤ × ℤ → Type 0) → Q (pos 0, pos 0) → ((i : ℕ) → i < t .m → Q (pairAt (t .sums) (suc i))) → (y : List ℤ) → Q (held c t y)
-  held-all Q z h y = go (found c t y) refl
-    where
-      go : (e : ℕ) → found c t y ≡ e → Q (pairAt (t .sums) e)
-      go zero q = z
-      go (suc i) q = let F = to-fine c t U in h i (low-found c (F .ranged .C-least) t (fine-kept c t F) y i q)
+  readable : Readable c t
+  readable = fine-readable c t (to-fine c t U)
 
   pub masses-low : (y : List ℤ) → pos 0 ≤ℤ masses c t y
-  masses-low = held-all (λ p. pos 0 ≤ℤ p .0) (≤ℤ-refl (pos 0)) (λ i l. le-trans (le-out (pos 0) (pos 1) (omega arith)) (to-fine c t U .sound .good i l .some))
+  masses-low = every-pair c t readable (λ m v. pos 0 ≤ℤ m) (≤ℤ-refl (pos 0)) (λ i l. le-trans (le-out (pos 0) (pos 1) (omega arith)) (to-fine c t U .sound .good i l .some))
 
   masses-small : (y : List ℤ) → Abs≤ (masses c t y) (most-W * most-readings)
-  masses-small = held-all (λ p. Abs≤ (p .0) (most-W * most-readings)) (record { abs = omega arith }) (λ i l. sums-small c t U i l .mass-small)
+  masses-small = every-pair c t readable (λ m v. Abs≤ m (most-W * most-readings)) (record { abs = omega arith }) (λ i l. sums-small c t U i l .mass-small)
 
   values-small : (y : List ℤ) → Abs≤ (values c t y) (most-value * (most-W * most-readings))
-  values-small = held-all (λ p. Abs≤ (p .1) (most-value * (most-W * most-readings))) (record { abs = omega arith }) (λ i l. sums-small c t U i l .value-small)
+  values-small = every-pair c t readable (λ m v. Abs≤ v (most-value * (most-W * most-readings))) (record { abs = omega arith }) (λ i l. sums-small c t U i l .value-small)
 
 pub mass-above : MassAbove
 unfolding massAfter
@@ -89,8 +80,8 @@ blur-small c t U n y = record {
 
 -- ---- the sheet after n passes
 pub sheet-holds : SheetHolds
-sheet-holds c t U n = let F = to-fine c t U in
-    sheet-held c t (record { ranged = F .ranged; shape = F .shape; indexed = F .sound .indexed }) (massAfter c t n) (valueAfter c t n) (mass-off c t n) (value-off c t n)
+sheet-holds c t U n =
+    sheet-held c t (fine-readable c t (to-fine c t U)) (massAfter c t n) (valueAfter c t n) (mass-off c t n) (value-off c t n)
 
 -- ---- two sound tables of one map
 module _ (c : Settings) (t : Table) (b : Settings) (s : Table) (same : (y : List ℤ) → held c t y ≡ held b s y) where

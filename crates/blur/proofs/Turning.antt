@@ -8,7 +8,7 @@ use lib.IntN.{ℤ, pos}
 use lib.ListN.{length, take}
 use Rattle.whole.specs.Size.{Abs≤}
 use Rattle.whole.specs.Lists.{at, splice}
-use Rattle.table.specs.Table.{Settings, Table, key, mass, value, found, pairAt, held}
+use Rattle.table.specs.Table.{Settings, Table, key, found, pairAt, held}
 use Rattle.blur.specs.Blur.{pass, passes, isStored, masses, values, massAfter, valueAfter}
 use Rattle.blur.specs.Sheet.{sheet, sheetAfter, withSums}
 use Rattle.blur.specs.Inner.{most-sum, most-blurred, Readable, Passed, Returning, passedSheet, Blurrable}
@@ -16,6 +16,7 @@ use Rattle.blur.proofs.Copying.{copied-length, copied-in, copied-past}
 use Rattle.blur.proofs.Passes.{passes-small}
 use Rattle.blur.proofs.Sheets.{each-place, sheet-is, sheet-length, sheet-mass, sheet-value, sheet-rest, sheet-held}
 use Rattle.blur.proofs.Theorems.{mass-off, value-off}
+use Rattle.blur.proofs.Stored.{sheet-readable, own-pair}
 
 -- ---- the new pairs, copied back
 pub passed-back : {first : List ℤ} (c : Settings) (t : Table) (k : ℕ) (second to : List ℤ) → Returning c t second → Passed c t k (t .m) to
@@ -32,15 +33,12 @@ passed-back {first} c t k second to R Q e =
 
 -- ---- the sheets of a table, one after the other
 module _ (c : Settings) (t : Table) (R : Readable c t) where
-  own-pair : (i : ℕ) → i < t .m → held c t (key c t i) ≡ (mass t i, value t i)
-  own-pair i l = ap (pairAt (t .sums)) (R .indexed .finds i l)
-
   -- the table's own pairs with 0 past them are the sheet after no pass
   pub own-sheet : (l : List ℤ) → length l ≡ 2 * c .C → ((j : ℕ) → j < 2 * t .m → at l j ≡ at (t .sums) j) → ((j : ℕ) → 2 * t .m ≤ j → at l j ≡ pos 0) → l ≡ sheetAfter c t 0
   unfolding massAfter valueAfter passes
   own-sheet l e same rest = sheet-is c t (masses c t) (values c t) l (R .indexed .sparse .room) e
-      (λ i h. same (2 * i) (omega arith) ∙ sym (ap (λ (p : ℤ × ℤ). p .0) (own-pair i h)))
-      (λ i h. same (2 * i + 1) (omega arith) ∙ sym (ap (λ (p : ℤ × ℤ). p .1) (own-pair i h)))
+      (λ i h. same (2 * i) (omega arith) ∙ sym (ap (λ (p : ℤ × ℤ). p .0) (own-pair c t R i h)))
+      (λ i h. same (2 * i + 1) (omega arith) ∙ sym (ap (λ (p : ℤ × ℤ). p .1) (own-pair c t R i h)))
       rest
 
   module _ (n : ℕ) where
@@ -94,11 +92,7 @@ module _ (c : Settings) (t : Table) (second : List ℤ) (B : Blurrable c t secon
   pub returning : {first to : List ℤ} (n : ℕ) → n ≤ c .d → first ≡ sheetAfter c t n → length to ≡ length second → Returning c (withSums t first) to
   returning {first} {to} n h e l = subst (λ (first : List ℤ). Returning c (withSums t first) to) (sym e) record {
     passable = record {
-      readable = record {
-        ranged = B .readable .ranged;
-        shape = record { keys = B .readable .shape .keys; sums = sheet-length c t (massAfter c t n) (valueAfter c t n) (B .readable .indexed .sparse .room); index = B .readable .shape .index };
-        indexed = B .readable .indexed;
-      };
+      readable = sheet-readable c t (sheetAfter c t n) (B .readable) (sheet-length c t (massAfter c t n) (valueAfter c t n) (B .readable .indexed .sparse .room));
       movable = B .movable;
       small = after-small n h;
     };

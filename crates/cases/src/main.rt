@@ -2,9 +2,10 @@
 // points of weight above 0 for it and their weights, or with the number by which it is refused; a
 // quotient with what it is rounded to; a division with its remainder; a list of readings with how many
 // were taken, the number, and the table; and the filter with its sheets and answers. What this prints is
-// held to the file stdout beside src/. Its
-// numbers are the document's, but for the one point of (1000000,-1000000): the document says only that
-// it is taken, and as a lattice point it has all of W.
+// held to the file stdout beside src/. Its numbers are the document's, but for the one point of
+// (1000000,-1000000): the document says only that it is taken, and as a lattice point it has all of W.
+// The filter is also run on a table of no readings, and with as many values as it has no queries for,
+// which is number 2 and leaves everything as it was.
 ghost use mathlib.Core.Path.{_≡_};
 ghost use Prim.Native.Nat.{_<_, _≤_};
 ghost use lib.ListN.{length};

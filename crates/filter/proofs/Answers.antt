@@ -1,9 +1,8 @@
 -- A sound table with the sheet of its blurred pairs in place of its sums: the answers by the sheet are the answers of the table.
-use mathlib.Core.Path.{_≡_, sym, ap, ap₂, _∙_, subst, fun-ext}
+use mathlib.Core.Path.{_≡_, ap, ap₂, fun-ext}
 use mathlib.Core.List.{List}
-use Prim.Native.Nat.{ℕ, suc, _+_, _*_, _/_, _%_, _^_, _<_, _≤_}
+use Prim.Native.Nat.{ℕ, suc, _*_, _^_, _<_, _≤_}
 use native.Mathlib.Nat.{le-refl, mul-le-mul, pow-le-pow-right}
-use native.Mathlib.Decide.{decLt, decLe}
 use native.Mathlib.Omega.{arith}
 use lib.IntN.{ℤ, pos, negℤ, _*ℤ_}
 use lib.Signed.{_≤ℤ_, ≤ℤ-refl}
@@ -19,12 +18,11 @@ use Rattle.blur.specs.Blur.{masses, values, blurredMass, blurredValue}
 use Rattle.blur.specs.Sheet.{blurredSheet, withSums}
 use Rattle.blur.specs.Inner.{most-blurred}
 use Rattle.blur.specs.Theorems.{Between}
-use Rattle.blur.proofs.Sheets.{sheet-length, sheet-mass, sheet-value, sheet-rest}
+use Rattle.blur.proofs.Sheets.{sheet-length, sheet-mass, sheet-value, sheet-rest, each-place}
 use Rattle.blur.proofs.Theorems.{after-between, mass-above, blur-small, sheet-holds}
+use Rattle.blur.proofs.Stored.{fine-readable, sheet-readable, own-stored, every-pair}
 use Rattle.filter.specs.Answer.{weighted, meets, codeBy, valueBy, code, answer}
 use Rattle.filter.specs.Inner.{Mapped, Smooth}
-use Rattle.filter.proofs.Weighing.{at-stored}
-use Rattle.filter.proofs.Bounds.{every-pair}
 
 -- no blurred number passes 4^6·384·4,096·1,000,000
 pub blurred-small : (c : Settings) (t : Table) → Fine c t → (y : List ℤ) → Abs≤ (blurredMass c t y) most-blurred × Abs≤ (blurredValue c t y) most-blurred
@@ -40,14 +38,14 @@ module _ (c : Settings) (t : Table) (F : Fine c t) where
   -- the keys that a sound table finds are those of lattice points
   pub mapped : Mapped c t
   mapped = record {
-    readable = record { ranged = F .ranged; shape = F .shape; indexed = F .sound .indexed };
+    readable = fine-readable c t F;
     size = λ i l. F .sound .good i l .size;
     point = λ i l. F .sound .good i l .point;
   }
 
   -- a stored point's blurred mass is above 0
   pub blurred-some : (i : ℕ) → i < t .m → pos 1 ≤ℤ blurredMass c t (key c t i)
-  blurred-some i l = mass-above c t (of-fine c t F) (suc (c .d)) (key c t i) (T-of (at-stored c t mapped i l))
+  blurred-some i l = mass-above c t (of-fine c t F) (suc (c .d)) (key c t i) (T-of (own-stored c t (mapped .readable) i l))
 
   -- value sums are within a million times the mass, and so they are blurred
   fair : Between (negℤ (pos most-value)) (pos most-value) (masses c t) (values c t)
@@ -69,23 +67,15 @@ module _ (c : Settings) (t : Table) (F : Fine c t) where
   value-is = sheet-value c t (blurredMass c t) (blurredValue c t)
 
   small : (j : ℕ) → Abs≤ (at (blurredSheet c t) j) most-blurred
-  small j = go (decLe (2 * t .m) j) (decLt 0 (j % 2))
-    where
-      go : Dec (2 * t .m ≤ j) → Dec (0 < j % 2) → Abs≤ (at (blurredSheet c t) j) most-blurred
-      go (yes h) p = rw (sheet-rest c t (blurredMass c t) (blurredValue c t) j h) (record { abs = omega arith })
-      go (no h) (yes p) = let q : j ≡ 2 * (j / 2) + 1 = omega arith in let k : j / 2 < t .m = omega arith in
-          subst (λ (z : ℤ). Abs≤ z most-blurred) (sym (ap (at (blurredSheet c t)) q ∙ value-is (j / 2) k)) (blurred-small c t F (key c t (j / 2)) .1)
-      go (no h) (no p) = let q : j ≡ 2 * (j / 2) = omega arith in let k : j / 2 < t .m = omega arith in
-          subst (λ (z : ℤ). Abs≤ z most-blurred) (sym (ap (at (blurredSheet c t)) q ∙ mass-is (j / 2) k)) (blurred-small c t F (key c t (j / 2)) .0)
+  small = each-place (λ j. Abs≤ (at (blurredSheet c t) j) most-blurred) (t .m)
+      (λ i l. rw (mass-is i l) (blurred-small c t F (key c t i) .0))
+      (λ i l. rw (value-is i l) (blurred-small c t F (key c t i) .1))
+      (λ j l. rw (sheet-rest c t (blurredMass c t) (blurredValue c t) j l) (record { abs = omega arith }))
 
   pub smooth : Smooth c (withSums t (blurredSheet c t))
   smooth = record {
     mapped = record {
-      readable = record {
-        ranged = F .ranged;
-        shape = record { keys = F .shape .keys; sums = sheet-length c t (blurredMass c t) (blurredValue c t) (F .sound .indexed .sparse .room); index = F .shape .index };
-        indexed = F .sound .indexed;
-      };
+      readable = sheet-readable c t (blurredSheet c t) (mapped .readable) (sheet-length c t (blurredMass c t) (blurredValue c t) (F .sound .indexed .sparse .room));
       size = mapped .size;
       point = mapped .point;
     };
@@ -102,9 +92,9 @@ module _ (c : Settings) (t : Table) (F : Fine c t) where
   values-are : values c smoothed ≡ blurredValue c t
   values-are = fun-ext (λ y. ap (λ (p : ℤ × ℤ). p .1) (sheet-holds c t (of-fine c t F) (suc (c .d)) y))
 
-  pub reply-same : (q : List ℤ) → codeBy c (withSums t (blurredSheet c t)) (masses c (withSums t (blurredSheet c t))) q ≡ code c t q
+  pub code-same : (q : List ℤ) → codeBy c (withSums t (blurredSheet c t)) (masses c (withSums t (blurredSheet c t))) q ≡ code c t q
   unfolding codeBy meets weighted
-  reply-same q = ap (λ (f : List ℤ → ℤ). codeBy c t f q) masses-are
+  code-same q = ap (λ (f : List ℤ → ℤ). codeBy c t f q) masses-are
 
   pub value-same : (q : List ℤ) → valueBy c (withSums t (blurredSheet c t)) (masses c (withSums t (blurredSheet c t))) (values c (withSums t (blurredSheet c t))) q ≡ answer c t q
   unfolding valueBy codeBy meets weighted

@@ -2,7 +2,7 @@
 -- sheet of blurred pairs: "384·4,096·1,000,000·4^6·384 is below 2.5·10^18".
 use mathlib.Core.Path.{_≡_, refl, sym, ap₂, _∙_}
 use mathlib.Core.List.{List, [], _∷_}
-use Prim.Native.Nat.{ℕ, zero, suc, _+_, _*_, _<_}
+use Prim.Native.Nat.{ℕ, _+_, _*_}
 use native.Mathlib.Omega.{arith}
 use lib.IntN.{ℤ, *ℤ-zero, pos, negℤ, _+ℤ_, _*ℤ_}
 use lib.ListN.{take}
@@ -13,10 +13,10 @@ use Rattle.whole.proofs.Parts.{le-out}
 use Rattle.whole.proofs.Ring.{*-dist-l, *-left, *-comm, *-one, *-zero, neg-times, le-trans, add-mono, neg-mono, mul-mono}
 use Rattle.whole.proofs.Size.{abs-pair, abs-lo, abs-hi}
 use Rattle.lattice.specs.Limits.{most-W, most-value}
-use Rattle.index.proofs.Finding.{found-low}
-use Rattle.table.specs.Table.{Settings, Table, key, mass, value, entry, found, pairAt}
+use Rattle.table.specs.Table.{Settings, Table, mass}
 use Rattle.blur.specs.Blur.{masses, values}
-use Rattle.blur.specs.Inner.{most-blurred, Readable}
+use Rattle.blur.specs.Inner.{most-blurred}
+use Rattle.blur.proofs.Stored.{every-pair}
 use Rattle.filter.specs.Inner.{weighedOver, WeighedIs, Smooth, Quotable}
 
 -- ---- a number of each point, weighed
@@ -66,16 +66,6 @@ module _ (d : ℕ) where
 
       low : negℤ (pos (B * most-W)) ≤ℤ weighedOver d ps f
       low = le-trans (neg-mono more) (rw (weighed-ones ps, neg-times (pos B) w) at (weighed-low ps (negℤ (pos B)) (λ y. pos 1) f (λ y. rw (same (negℤ (pos B))) (abs-lo (h y)))))
-
--- ---- the pairs of a sheet
--- what holds of 0 and of the pairs of the stored points holds of the pair of every point
-pub every-pair : (c : Settings) (t : Table) → Readable c t → (Q : ℤ → ℤ → Type 0) → Q (pos 0) (pos 0) → ((i : ℕ) → i < t .m → Q (mass t i) (value t i))
-    → (y : List ℤ) → Q (masses c t y) (values c t y)
-every-pair c t R Q z h y = go (found c t y) refl
-  where
-    go : (e : ℕ) → found c t y ≡ e → Q (pairAt (t .sums) e .0) (pairAt (t .sums) e .1)
-    go zero p = z
-    go (suc i) p = h i (found-low (c .C) (t .m) (key c t) (entry t) (R .ranged .C-least) (R .indexed .sparse) y i p)
 
 -- ---- the sums over a sheet of blurred pairs
 module _ (c : Settings) (t : Table) (A : Smooth c t) (ps : List (List ℤ × ℕ)) (light : over ps (λ p. pos (p .1)) ≤ℤ pos most-W) (w m v : ℤ) (S : WeighedIs c t ps w m v) where

@@ -25,7 +25,7 @@ use Rattle.blur.specs.Inner.{Sheets, Blurred}
 use Rattle.filter.specs.Answer.{codeBy, valueBy, code, answer}
 use Rattle.filter.specs.Filter.{Lent, Filters, queryAt, queriesIn, lentFits, filterRefusal, filtered, afterFilter}
 use Rattle.filter.specs.Inner.{lentFitsRanged, Answerable, RepliesAre}
-use Rattle.filter.proofs.Answers.{smooth, reply-same, value-same}
+use Rattle.filter.proofs.Answers.{smooth, code-same, value-same}
 
 -- ---- the lengths of what is lent
 abbrev pub lengthsFit : Settings → List ℤ → Lent → Bool
@@ -131,6 +131,6 @@ module _ (c : Settings) (t : Table) (queries : List ℤ) (l : Lent) (x : ℕ) (e
                 ∙ ap (λ (l : Lent). l .values) s;
             codes-are = R .codes-are
                 ∙ ap (λ (l : List ℤ). tab n (λ j. codeBy c (withSums t l) (masses c (withSums t l)) (queryAt (c .d) queries j))) (B .first-is)
-                ∙ tab-cong n (λ j. codeBy c u (masses c u) (queryAt (c .d) queries j)) (λ j. code c t (queryAt (c .d) queries j)) (λ j _. reply-same c t (open-to .fine) (queryAt (c .d) queries j))
+                ∙ tab-cong n (λ j. codeBy c u (masses c u) (queryAt (c .d) queries j)) (λ j. code c t (queryAt (c .d) queries j)) (λ j _. code-same c t (open-to .fine) (queryAt (c .d) queries j))
                 ∙ ap (λ (l : Lent). l .codes) s;
           }

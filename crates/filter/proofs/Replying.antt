@@ -16,11 +16,11 @@ use Rattle.simplex.specs.Slots.{Placed, Encloses, slot}
 use Rattle.simplex.proofs.Slots.{slots-are-the-points, weights-length, coords-length}
 use Rattle.simplex.proofs.Placing.{placed}
 use Rattle.index.specs.Keys.{eqZ}
-use Rattle.table.specs.Table.{Settings, Table, found}
+use Rattle.table.specs.Table.{Settings, Table}
 use Rattle.table.specs.Inner.{Ranged}
 use Rattle.table.proofs.Refusals.{first-zero}
 use Rattle.blur.specs.Blur.{masses, values}
-use Rattle.blur.proofs.Theorems.{not-found}
+use Rattle.blur.proofs.Stored.{not-stored}
 use Rattle.filter.specs.declared.reply.Reply.{Reply}
 use Rattle.filter.specs.Answer.{weighted, meets, codeBy, beside, valueBy}
 use Rattle.filter.specs.Inner.{WeighedIs, Weighable, sumsCode, sumsValue, QuotientIs, Smooth, ReplyIs}
@@ -85,10 +85,10 @@ module _ (c : Settings) (t : Table) (A : Smooth c t) (q : List ℤ) (j : judged 
   met = meets-ones c t (A .mapped) q ∙ ap (λ (z : ℤ). not (eqZ z (pos 0))) (sym (W .weight-is))
 
   mass-sum : weighted c t (masses c t) q ≡ m
-  mass-sum = weighted-over c t (A .mapped) (masses c t) (λ y e. ap (λ (p : ℤ × ℤ). p .0) (not-found (t .sums) (found c t y) e)) q ∙ sym (W .mass-is)
+  mass-sum = weighted-over c t (A .mapped) (masses c t) (λ y e. ap (λ (p : ℤ × ℤ). p .0) (not-stored c t y e)) q ∙ sym (W .mass-is)
 
   value-sum : weighted c t (values c t) q ≡ v
-  value-sum = weighted-over c t (A .mapped) (values c t) (λ y e. ap (λ (p : ℤ × ℤ). p .1) (not-found (t .sums) (found c t y) e)) q ∙ sym (W .value-is)
+  value-sum = weighted-over c t (A .mapped) (values c t) (λ y e. ap (λ (p : ℤ × ℤ). p .1) (not-stored c t y e)) q ∙ sym (W .value-is)
 
   code-is : codeBy c t (masses c t) q ≡ sumsCode w m
   unfolding sumsCode

@@ -27,8 +27,9 @@ use Rattle.table.specs.Table.{Settings, Table, found, pairAt}
 use Rattle.table.proofs.Lists.{collect-parts}
 use Rattle.blur.specs.Blur.{isStored, masses, values}
 use Rattle.blur.specs.Inner.{most-blurred, Readable, PairIs}
+use Rattle.blur.proofs.Stored.{every-pair}
 use Rattle.filter.specs.Inner.{ones, weighedOver, WeighedIs, Weighable}
-use Rattle.filter.proofs.Bounds.{weighed-small, every-pair}
+use Rattle.filter.proofs.Bounds.{weighed-small}
 
 -- ---- all weights of a list of points together
 abbrev heft : List (List ℤ × ℕ) → ℤ

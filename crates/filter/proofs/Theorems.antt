@@ -38,11 +38,12 @@ use Rattle.blur.specs.Blur.{values, massAfter, valueAfter, blurredMass, blurred
 use Rattle.blur.specs.Inner.{most-blurred}
 use Rattle.blur.specs.Theorems.{Between}
 use Rattle.blur.proofs.Theorems.{mass-off, value-off, after-between, blur-of-map}
+use Rattle.blur.proofs.Stored.{every-pair}
 use Rattle.filter.specs.Answer.{weightOf, weighted, meets, codeBy, beside, valueBy, code, answer}
 use Rattle.filter.specs.Inner.{ones, weighedOver, Mapped}
 use Rattle.filter.specs.Theorems.{NeverEleven, ValuesBetween, FreshBetween, EnterBetween, MergeBetween, AnswerBetween, AnswersFit, AnswerOfMap, FiltersOnce}
 use Rattle.filter.proofs.Weighing.{key-whole, weighted-over, meets-ones, weights-light}
-use Rattle.filter.proofs.Bounds.{weighed-low, weighed-high, weighed-small, every-pair}
+use Rattle.filter.proofs.Bounds.{weighed-low, weighed-high, weighed-small}
 use Rattle.filter.proofs.Answers.{blurred-small, mapped, blurred-some}
 
 -- ---- two outcomes of one call are equal
@@ -158,7 +159,7 @@ tested-eleven true true true false e = absurd (omega arith)
 
 pub never-eleven : NeverEleven
 unfolding codeBy
-never-eleven c t U q size e =
+never-eleven c t U q e =
     let mass = weighted c t (blurredMass c t) q in
     let (met, z) = tested-eleven (allNear q) (sumsToZero q) (meets c t q) (eqZ mass (pos 0)) e in
     omega (arith, le-in (pos 1) mass (mass-sum-above c t q U met), eq-in mass (pos 0) (eqZ-eq mass (pos 0) z))
@@ -184,7 +185,7 @@ value-given c t q e = ap (λ (x : ℕ). beside x (rounded (weighted c t (blurred
 
 -- ---- answers between bounds
 pub answer-between : AnswerBetween
-answer-between lo hi c t U h q size e = rw (value-given c t q e) (rounded-between num lo hi (natAbs den) (omega (arith, le-in (pos 1) den above, natAbs-is den))
+answer-between lo hi c t U h q e = rw (value-given c t q e) (rounded-between num lo hi (natAbs den) (omega (arith, le-in (pos 1) den above, natAbs-is den))
     (subst (λ (z : ℤ). (lo *ℤ z) ≤ℤ num) size-is low) (subst (λ (z : ℤ). num ≤ℤ (hi *ℤ z)) size-is high))
   where
     ps : List (List ℤ × ℕ)

@@ -5,7 +5,7 @@ use mathlib.Core.Bool.{Bool, true, false, not}
 use mathlib.Core.List.{List, []}
 use Prim.Native.Nat.{ℕ, zero, suc, _<_}
 use native.Mathlib.Omega.{arith}
-use lib.Dec.{T, eqb, eqb→eq, lt→ltb}
+use lib.Dec.{T, eqb, eqb→eq}
 use lib.IntN.{ℤ, *ℤ-zero, pos, _*ℤ_}
 use lib.ListN.{length, getD, take}
 use lib.Seq.{take-at}
@@ -18,7 +18,7 @@ use Rattle.whole.specs.Word.{word}
 use Rattle.whole.proofs.Parts.{le-out, eq-in}
 use Rattle.whole.proofs.Ring.{*-comm, *-one}
 use Rattle.whole.proofs.Sum.{pick, none, one-hit, sum-cong, sum-mul, sum-swap, sum-zero, sum-tight, sum-list}
-use Rattle.whole.proofs.Tests.{T-true, T-ext, all-at, all-of}
+use Rattle.whole.proofs.Tests.{T-ext, all-at, all-of}
 use Rattle.lattice.specs.Limits.{most-W}
 use Rattle.lattice.specs.Weight.{W, weight, best, spread}
 use Rattle.lattice.specs.Points.{points, weighed, corner, lastOf}
@@ -41,6 +41,7 @@ use Rattle.table.specs.Sound.{goodKey, goodPair, indexed, sound}
 use Rattle.table.specs.Pour.{setPair, append, raise, pour, news}
 use Rattle.table.specs.Calls.{ranged, fits, fresh, enterAll, callRefusal, enter}
 use Rattle.blur.specs.Blur.{isStored, step, plusStep, minusStep, pass, passes, massAfter, valueAfter}
+use Rattle.blur.proofs.Stored.{own-stored}
 use Rattle.filter.specs.Answer.{weightOf, weighted, meets, codeBy, valueBy}
 use Rattle.filter.specs.Inner.{ones, weighedOver, Mapped}
 use Rattle.filter.specs.Worked.{AnswerCases}
@@ -67,10 +68,6 @@ weights-light c G q =
     rw e (le-out (pos (W (c .d) (c .S))) (pos most-W) (omega (arith, W-most c G)))
 
 module _ (c : Settings) (t : Table) (M : Mapped c t) where
-  -- what is stored at a place is found
-  pub at-stored : (i : ℕ) → i < t .m → isStored c t (key c t i) ≡ true
-  at-stored i l = T-true (isStored c t (key c t i)) (lt→ltb 0 (found c t (key c t i)) (omega (arith, M .readable .indexed .finds i l)))
-
   module _ (q : List ℤ) where
     ps : List (List ℤ)
     ps = points (c .d) (c .S) q
@@ -154,7 +151,7 @@ module _ (c : Settings) (t : Table) (M : Mapped c t) (q : List ℤ) where
 
   all-weights : sum (t .m) each ≡ total
   unfolding weighted
-  all-weights = sum-cong (t .m) each (λ i. each i *ℤ ones c t (key c t i)) (λ i l. rw (at-stored c t M i l) (sym (*-comm (each i) (pos 1) ∙ *-one (each i))))
+  all-weights = sum-cong (t .m) each (λ i. each i *ℤ ones c t (key c t i)) (λ i l. rw (own-stored c t (M .readable) i l) (sym (*-comm (each i) (pos 1) ∙ *-one (each i))))
       ∙ weighted-over c t M (ones c t) (λ y e. rw e) q
 
   none-weighs : T (all (t .m) light) → T (eqZ total (pos 0))

@@ -18,7 +18,7 @@ use Rattle.filter.specs.Filter.{Lent, Filters}
 
 -- 11 is never met on a sound table
 abbrev pub NeverEleven : Type 0
-NeverEleven = (c : Settings) (t : Table) → Usable c t → (q : List ℤ) → length q ≡ suc (c .d) → code c t q ≡ no-mass-met → ⊥
+NeverEleven = (c : Settings) (t : Table) → Usable c t → (q : List ℤ) → code c t q ≡ no-mass-met → ⊥
 
 -- every value entered lies between lo and hi: then each value sum of the table lies between lo and hi times its mass. So it is in a fresh table,
 abbrev pub ValuesBetween : ℤ → ℤ → Settings → Table → Type 0
@@ -40,7 +40,7 @@ MergeBetween = (lo hi : ℤ) (c : Settings) (t : Table) (b : Settings) (s : Tabl
 -- and an answer given lies between lo and hi
 abbrev pub AnswerBetween : Type 0
 AnswerBetween = (lo hi : ℤ) (c : Settings) (t : Table) → Usable c t → ValuesBetween lo hi c t
-    → (q : List ℤ) → length q ≡ suc (c .d) → code c t q ≡ 0 → Within lo hi (answer c t q)
+    → (q : List ℤ) → code c t q ≡ 0 → Within lo hi (answer c t q)
 
 -- "384·4,096·1,000,000·4^6·384 is below 2.5·10^18": nothing leaves 64 bits
 pub record SumsFit (c : Settings) (t : Table) (q : List ℤ) : Type 0 where
