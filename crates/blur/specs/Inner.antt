@@ -2,7 +2,7 @@
 use mathlib.Core.Path.{_≡_}
 use mathlib.Core.Bool.{Bool, cond}
 use mathlib.Core.List.{List}
-use Prim.Native.Nat.{ℕ, _+_, _*_, _<_, _≤_}
+use Prim.Native.Nat.{ℕ, _+_, _*_, _^_, _<_, _≤_}
 use lib.IntN.{ℤ, pos}
 use lib.ListN.{length}
 use Rattle.whole.specs.Size.{Abs≤}
@@ -19,7 +19,7 @@ abbrev pub most-sum : ℕ
 most-sum = most-value * (most-W * most-readings)
 
 abbrev pub most-blurred : ℕ
-most-blurred = 4096 * most-sum
+most-blurred = 4 ^ 6 * most-sum
 
 -- a key that can be moved by a step in 32 bits
 pub record Movable (y : List ℤ) : Type 0 where

@@ -1,6 +1,8 @@
 pub mod Weighing
 pub mod Bounds
+pub mod Coding
 pub mod Answers
+pub mod Between
 pub mod Theorems
 pub mod Slots
 pub mod Quotient

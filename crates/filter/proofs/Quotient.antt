@@ -6,7 +6,7 @@ use native.Mathlib.Omega.{arith}
 use lib.IntN.{ℤ, pos, negsuc, negℤ, natAbs}
 use lib.Signed.{_≤ℤ_}
 use Rattle.whole.specs.Size.{Abs≤}
-use Rattle.whole.specs.Rounding.{rounded, Fraction}
+use Rattle.whole.specs.Rounding.{rounded, most-fraction, Fraction}
 use Rattle.whole.proofs.Parts.{le-in, le-out, natAbs-is}
 use Rattle.whole.proofs.Readings.{abs-pos}
 use Rattle.whole.proofs.Rounding.{rounded-between}
@@ -32,7 +32,7 @@ module _ (m v : ℤ) (Q : Quotable m v) (some : m ≡ pos 0 → ⊥) where
 
   -- the quotient is taken in 64 bits,
   pub fraction : Fraction v m
-  fraction = let a = Q .mass-small in record { num-small = Q .value-small; den-small = record { low = mass-some; high = le-out m (pos 2500000000000000000) (omega arith) } }
+  fraction = let a = Q .mass-small in record { num-small = Q .value-small; den-small = record { low = mass-some; high = le-out m (pos most-fraction) (omega arith) } }
 
   -- and is a value
   pub quotient-value : Abs≤ (rounded v (natAbs m)) most-value

@@ -1,49 +1,27 @@
 -- One query: from what `judge`, `enclose` and `weigh` answer to what the next step asks, and to what is answered.
 use mathlib.Core.Path.{_≡_, refl, sym, ap, ap₂, subst, _∙_}
-use mathlib.Core.Bool.{Bool, true, false, not}
-use mathlib.Core.List.{List, [], _∷_}
+use mathlib.Core.Bool.{not}
+use mathlib.Core.List.{List}
 use Prim.Native.Nat.{ℕ, zero, suc}
 use lib.IntN.{ℤ, pos, natAbs}
 use lib.ListN.{length}
 use Rattle.whole.specs.Lists.{collect}
 use Rattle.whole.specs.Rounding.{rounded}
-use Rattle.whole.proofs.Tests.{T-true}
-use Rattle.lattice.specs.Refusals.{first, sum-not-zero, no-point-met, no-mass-met}
-use Rattle.lattice.specs.Position.{allNear, sumsToZero, judged}
+use Rattle.lattice.specs.Position.{judged}
 use Rattle.lattice.specs.Points.{weighed}
-use Rattle.lattice.proofs.Judging.{judged-none}
 use Rattle.simplex.specs.Slots.{Placed, Encloses, slot}
 use Rattle.simplex.proofs.Slots.{slots-are-the-points, weights-length, coords-length}
 use Rattle.simplex.proofs.Placing.{placed}
 use Rattle.index.specs.Keys.{eqZ}
 use Rattle.table.specs.Table.{Settings, Table}
 use Rattle.table.specs.Inner.{Ranged}
-use Rattle.table.proofs.Refusals.{first-zero}
 use Rattle.blur.specs.Blur.{masses, values}
 use Rattle.blur.proofs.Stored.{not-stored}
 use Rattle.filter.specs.declared.reply.Reply.{Reply}
 use Rattle.filter.specs.Answer.{weighted, meets, codeBy, beside, valueBy}
 use Rattle.filter.specs.Inner.{WeighedIs, Weighable, sumsCode, sumsValue, QuotientIs, Smooth, ReplyIs}
 use Rattle.filter.proofs.Weighing.{weighted-over, meets-ones, weights-light}
-
--- ---- the number, by the tests made so far
-module _ (c : Settings) (t : Table) (mass : List ℤ → ℤ) (q : List ℤ) where
-  by-position : (judged q ≡ 0 → ⊥) → codeBy c t mass q ≡ judged q
-  unfolding codeBy judged first
-  by-position h = go (allNear q) (sumsToZero q) refl refl
-    where
-      go : (a b : Bool) → allNear q ≡ a → sumsToZero q ≡ b → codeBy c t mass q ≡ judged q
-      go false b e k = rw e refl
-      go true false e k = rw (e, k) refl
-      go true true e k = absurd (h (judged-none q e k))
-
-  -- at a position the points around it decide
-  by-points : judged q ≡ 0 → codeBy c t mass q ≡ first ((meets c t q, no-point-met) ∷ (not (eqZ (weighted c t mass q) (pos 0)), no-mass-met) ∷ [])
-  unfolding codeBy judged first
-  by-points h =
-      let a = first-zero (allNear q) 3 ((sumsToZero q, sum-not-zero) ∷ []) h in
-      let b = first-zero (sumsToZero q) 4 [] (a .1) in
-      rw (T-true (allNear q) (a .0), T-true (sumsToZero q) (b .0)) refl
+use Rattle.filter.proofs.Coding.{by-position, by-points}
 
 -- the value is 0 beside any number but 0
 beside-none : (x : ℕ) (v : ℤ) → (x ≡ 0 → ⊥) → beside x v ≡ pos 0

@@ -1,50 +1,45 @@
--- The statements of specs/Theorems.antt, proved.
+-- The statements of specs/Theorems.antt, proved; those on the values entered stand in Between.antt.
 use mathlib.Core.Path.{_≡_, refl, sym, ap, ap₂, _∙_, subst, fun-ext}
-use mathlib.Core.Logic.{⊎-elim}
+use mathlib.Core.Logic.{_⊎_, inl, inr, ⊎-elim}
 use mathlib.Core.Bool.{Bool, true, false, not, cond}
-use mathlib.Core.List.{List, [], _∷_}
+use mathlib.Core.List.{List}
 use Prim.Native.Nat.{ℕ, suc, _*_, _<_}
-use native.Mathlib.Nat.{eq-zero-or-pos}
+use native.Mathlib.Decide.{ℕ-discrete}
 use native.Mathlib.Omega.{arith}
-use lib.Dec.{T, eqb, T-not}
-use lib.IntN.{ℤ, *ℤ-zero, pos, natAbs, _*ℤ_}
-use lib.Signed.{_≤ℤ_, _<ℤ_, ≤ℤ-refl}
-use Rattle.whole.specs.Size.{Abs≤, Within}
-use Rattle.whole.specs.Rounding.{rounded}
-use Rattle.whole.specs.Sum.{sum, all}
-use Rattle.whole.specs.Lists.{at}
+use lib.IntN.{ℤ, pos, natAbs, _*ℤ_}
+use lib.Signed.{_≤ℤ_, _<ℤ_}
+use Rattle.whole.specs.Size.{Abs≤}
+use Rattle.whole.specs.Rounding.{rounded, most-fraction}
+use Rattle.whole.specs.Sum.{sum}
 use Rattle.whole.proofs.Linear.{on, difs, ints}
 use Rattle.whole.proofs.Parts.{natAbs-is, le-in, le-out, eq-in}
 use Rattle.whole.proofs.Readings.{abs-pos}
-use Rattle.whole.proofs.Ring.{*-one, *-comm, *-dist-l, le-trans, add-mono, mul-mono, le-or-lt}
+use Rattle.whole.proofs.Ring.{*-one, *-comm, le-trans, mul-mono, le-or-lt}
 use Rattle.whole.proofs.Rounding.{rounded-between}
 use Rattle.whole.proofs.Sum.{sum-zero, sum-tight}
-use Rattle.whole.proofs.Tests.{T-false, some-false}
+use Rattle.whole.proofs.Tests.{T-false}
 use Rattle.lattice.specs.Limits.{most-W}
-use Rattle.lattice.specs.Refusals.{first, coordinate-beyond, sum-not-zero, no-point-met, no-mass-met}
-use Rattle.lattice.specs.Weight.{weight}
+use Rattle.lattice.specs.Refusals.{first, no-point-met}
 use Rattle.lattice.specs.Points.{weighed}
-use Rattle.lattice.specs.Position.{allNear, sumsToZero}
+use Rattle.lattice.specs.Position.{Judged, judged}
+use Rattle.lattice.proofs.Judging.{judged-right}
 use Rattle.index.specs.Keys.{eqZ}
-use Rattle.index.proofs.Equality.{eq-eqb, eqZ-eq}
-use Rattle.table.specs.Table.{Settings, Table, key, mass, value, whole, pairAt, held}
-use Rattle.table.specs.Reading.{entered}
+use Rattle.index.proofs.Equality.{eqZ-eq}
+use Rattle.table.specs.Table.{Settings, Table, key, mass, held}
 use Rattle.table.specs.Inner.{Fine}
-use Rattle.table.specs.Calls.{fresh, merged}
-use Rattle.table.specs.Theorems.{Usable, plus}
+use Rattle.table.specs.Theorems.{Usable}
 use Rattle.table.proofs.Soundness.{to-fine}
-use Rattle.table.proofs.Theorems.{fresh-holds, enter-keeps, enter-adds, merge-adds}
 use Rattle.blur.specs.Blur.{values, massAfter, valueAfter, blurredMass, blurredValue}
 use Rattle.blur.specs.Inner.{most-blurred}
 use Rattle.blur.specs.Theorems.{Between}
 use Rattle.blur.proofs.Theorems.{mass-off, value-off, after-between, blur-of-map}
-use Rattle.blur.proofs.Stored.{every-pair}
 use Rattle.filter.specs.Answer.{weightOf, weighted, meets, codeBy, beside, valueBy, code, answer}
-use Rattle.filter.specs.Inner.{ones, weighedOver, Mapped}
-use Rattle.filter.specs.Theorems.{NeverEleven, ValuesBetween, FreshBetween, EnterBetween, MergeBetween, AnswerBetween, AnswersFit, AnswerOfMap, FiltersOnce}
-use Rattle.filter.proofs.Weighing.{key-whole, weighted-over, meets-ones, weights-light}
+use Rattle.filter.specs.Inner.{ones, weighedOver}
+use Rattle.filter.specs.Theorems.{Coded, CodedRight, NeverEleven, AnswerBetween, AnswersFit, AnswerOfMap, FiltersOnce}
+use Rattle.filter.proofs.Weighing.{weighted-over, meets-ones, weights-light}
 use Rattle.filter.proofs.Bounds.{weighed-low, weighed-high, weighed-small}
 use Rattle.filter.proofs.Answers.{blurred-small, mapped, blurred-some}
+use Rattle.filter.proofs.Coding.{by-position, by-points, judged-small, met-one, met-none}
 
 -- ---- two outcomes of one call are equal
 pub filters-once : FiltersOnce
@@ -56,68 +51,10 @@ filters-once c t queries l number number′ first first′ second second′ valu
   A .codes-are ∙ sym (B .codes-are),
 )
 
--- ---- every value entered lies between lo and hi
--- of a mass and a value sum: they are both 0, or added up, or a weight and the weight times a value
-abbrev Bounded : ℤ → ℤ → ℤ × ℤ → Type 0
-Bounded lo hi p = ((lo *ℤ p .0) ≤ℤ p .1) × (p .1 ≤ℤ (hi *ℤ p .0))
-
-bounded-zero : (lo hi : ℤ) → Bounded lo hi (pos 0, pos 0)
-bounded-zero lo hi = (rw (*ℤ-zero lo) (≤ℤ-refl (pos 0)), rw (*ℤ-zero hi) (≤ℤ-refl (pos 0)))
-
-bounded-plus : (lo hi : ℤ) (p q : ℤ × ℤ) → Bounded lo hi p → Bounded lo hi q → Bounded lo hi (plus p q)
-bounded-plus lo hi p q (a, b) (a′, b′) = (
-  rw (*-dist-l lo (p .0) (q .0)) (add-mono a a′),
-  rw (*-dist-l hi (p .0) (q .0)) (add-mono b b′),
-)
-
-bounded-share : (lo hi : ℤ) (w : ℕ) (v : ℤ) → Within lo hi v → Bounded lo hi (pos w, pos w *ℤ v)
-bounded-share lo hi w v b = (rw (*-comm lo (pos w)) (mul-mono w (b .low)), rw (*-comm hi (pos w)) (mul-mono w (b .high)))
-
-all-between : (lo hi : ℤ) (c : Settings) (t : Table) → ((y : List ℤ) → Bounded lo hi (held c t y)) → ValuesBetween lo hi c t
-all-between lo hi c t h = record { low = λ y. h y .0; high = λ y. h y .1 }
-
-pub fresh-between : FreshBetween
-fresh-between lo hi c g = all-between lo hi c (fresh c) (λ y. rw (fresh-holds c g y) (bounded-zero lo hi))
-
-pub merge-between : MergeBetween
-merge-between lo hi c t b s e h k = all-between lo hi c (merged c t b s) (λ y.
-    rw (merge-adds c t b s e y) (bounded-plus lo hi (held c t y) (held b s y) (h .low y, h .high y) (k .low y, k .high y)))
-
-pub enter-between : EnterBetween
-enter-between lo hi c t r size U e h b = all-between lo hi c u (every-pair c u (M .readable) (λ a b. Bounded lo hi (a, b)) (bounded-zero lo hi) each)
-  where
-    u : Table
-    u = entered c t r
-
-    F : Fine c u
-    F = to-fine c u (enter-keeps c t r size U e)
-
-    M : Mapped c u
-    M = mapped c u F
-
-    -- at each stored point, which is a lattice point, the reading's share is added; elsewhere the pair is 0
-    each : (i : ℕ) → i < u .m → Bounded lo hi (mass u i, value u i)
-    each i l =
-        let k = key c u i in
-        let w = weight (c .d) (c .S) (at (r .place)) (at (whole k)) in
-        let a = enter-adds c t r size U e (whole k) (M .point i l) in
-        subst (Bounded lo hi) (sym (rw (key-whole (c .d) k (M .size i l)) at a) ∙ ap (pairAt (u .sums)) (M .readable .indexed .finds i l))
-        (bounded-plus lo hi (held c t k) (pos w, pos w *ℤ r .value) (h .low k, h .high k) (bounded-share lo hi w (r .value) b))
-
 -- ---- the mass sum of a query
 module _ (c : Settings) (t : Table) (q : List ℤ) where
-  abbrev light : ℕ → Bool
-  light i = eqb (weightOf c t q i) 0
-
-  -- a stored point that is met
-  some-met : T (meets c t q) → (i : ℕ) × (i < t .m) × (0 < weightOf c t q i)
-  unfolding meets
-  some-met h =
-      let (i, l, e) = some-false (t .m) light (T-false (all (t .m) light) (T-not (all (t .m) light) h)) in
-      (i, l, ⊎-elim (λ z. absurd (subst T e (eq-eqb (weightOf c t q i) 0 z))) (λ w. w) (eq-zero-or-pos (weightOf c t q i)))
-
   -- where the numbers of stored points are above 0 and one is met, the weighted ones have a sum above 0
-  weighted-above : (f : List ℤ → ℤ) → ((i : ℕ) → i < t .m → pos 1 ≤ℤ f (key c t i)) → T (meets c t q) → pos 1 ≤ℤ weighted c t f q
+  weighted-above : (f : List ℤ → ℤ) → ((i : ℕ) → i < t .m → pos 1 ≤ℤ f (key c t i)) → meets c t q ≡ true → pos 1 ≤ℤ weighted c t f q
   unfolding weighted
   weighted-above f h met = ⊎-elim (λ l. l) (λ l. absurd (too-few l)) (le-or-lt (pos 1) (sum (t .m) term))
     where
@@ -132,37 +69,68 @@ module _ (c : Settings) (t : Table) (q : List ℤ) where
 
       too-few : sum (t .m) term <ℤ pos 1 → ⊥
       too-few k =
-          let (i, l, w) = some-met met in
+          let (i, l, w) = met-one c t q met in
           let e = sum-tight (t .m) (λ i. pos 0) term (λ i l. le-trans (le-out (pos 0) (pos (weightOf c t q i)) (omega arith)) (heavy i l))
           (rw (sum-zero (t .m)) (lin (sum (t .m) term) k)) i l in
           omega (arith, w, le-in (pos (weightOf c t q i)) (term i) (heavy i l), eq-in (pos 0) (term i) e)
 
   -- so it is with the blurred masses of a sound table
-  mass-sum-above : Usable c t → T (meets c t q) → pos 1 ≤ℤ weighted c t (blurredMass c t) q
+  mass-sum-above : Usable c t → meets c t q ≡ true → pos 1 ≤ℤ weighted c t (blurredMass c t) q
   mass-sum-above U = weighted-above (blurredMass c t) (blurred-some c t (to-fine c t U))
 
--- which tests a query that has the code 0 or 11 has passed, and which not
-tested-zero : (a b m z : Bool) → first ((a, coordinate-beyond) ∷ (b, sum-not-zero) ∷ (m, no-point-met) ∷ (not z, no-mass-met) ∷ []) ≡ 0 → T m
-unfolding first
-tested-zero false b m z e = absurd (omega arith)
-tested-zero true false m z e = absurd (omega arith)
-tested-zero true true false z e = absurd (omega arith)
-tested-zero true true true z e = tt
+-- ---- the code of a query on a sound table
+-- it is the position's, or 0 where a stored point is met, or 10
+abbrev CodeCases : Settings → Table → List ℤ → Type 0
+CodeCases c t q = ((judged q ≡ 0 → ⊥) × (code c t q ≡ judged q)) ⊎ ((judged q ≡ 0) × (((meets c t q ≡ true) × (code c t q ≡ 0)) ⊎ ((meets c t q ≡ false) × (code c t q ≡ no-point-met))))
 
-tested-eleven : (a b m z : Bool) → first ((a, coordinate-beyond) ∷ (b, sum-not-zero) ∷ (m, no-point-met) ∷ (not z, no-mass-met) ∷ []) ≡ no-mass-met → T m × T z
+code-cases : (c : Settings) (t : Table) → Usable c t → (q : List ℤ) → CodeCases c t q
 unfolding first
-tested-eleven false b m z e = absurd (omega arith)
-tested-eleven true false m z e = absurd (omega arith)
-tested-eleven true true false z e = absurd (omega arith)
-tested-eleven true true true true e = (tt, tt)
-tested-eleven true true true false e = absurd (omega arith)
+code-cases c t U q = go (ℕ-discrete (judged q) 0) (meets c t q) refl
+  where
+    mass : ℤ
+    mass = weighted c t (blurredMass c t) q
+
+    some : meets c t q ≡ true → not (eqZ mass (pos 0)) ≡ true
+    some m = rw (T-false (eqZ mass (pos 0)) (λ z. omega (arith, le-in (pos 1) mass (mass-sum-above c t q U m), eq-in mass (pos 0) (eqZ-eq mass (pos 0) z)))) refl
+
+    go : Dec (judged q ≡ 0) → (b : Bool) → meets c t q ≡ b → CodeCases c t q
+    go (no h) b m = inl (h, by-position c t (blurredMass c t) q h)
+    go (yes j) true m = inr (j, inl (m, by-points c t (blurredMass c t) q j ∙ rw (m, some m) refl))
+    go (yes j) false m = inr (j, inr (m, by-points c t (blurredMass c t) q j ∙ rw m refl))
 
 pub never-eleven : NeverEleven
-unfolding codeBy
-never-eleven c t U q e =
-    let mass = weighted c t (blurredMass c t) q in
-    let (met, z) = tested-eleven (allNear q) (sumsToZero q) (meets c t q) (eqZ mass (pos 0)) e in
-    omega (arith, le-in (pos 1) mass (mass-sum-above c t q U met), eq-in mass (pos 0) (eqZ-eq mass (pos 0) z))
+never-eleven c t U q e = go (code-cases c t U q)
+  where
+    go : CodeCases c t q → ⊥
+    go (inl (h, k)) = omega (arith, e, k, judged-small q)
+    go (inr (j, inl (m, k))) = omega (arith, e, k)
+    go (inr (j, inr (m, k))) = omega (arith, e, k)
+
+pub coded-right : CodedRight
+coded-right c t U q size = go (code-cases c t U q)
+  where
+    J : Judged (c .d) q
+    J = judged-right (c .d) q size
+
+    go : CodeCases c t q → Coded c t q
+    go (inl (h, k)) = record {
+      four = (λ e. sym k ∙ e, λ e. k ∙ e);
+      five = (λ e. sym k ∙ e, λ e. k ∙ e);
+      ten = (λ e. absurd (omega (arith, e, k, judged-small q)), λ p. absurd (h (J .none .1 (p .0))));
+      none = (λ e. absurd (h (sym k ∙ e)), λ p. absurd (h (J .none .1 (p .0))));
+    }
+    go (inr (j, inl (m, k))) = record {
+      four = (λ e. absurd (omega (arith, e, k)), λ e. absurd (omega (arith, e, j)));
+      five = (λ e. absurd (omega (arith, e, k)), λ e. absurd (omega (arith, e, j)));
+      ten = (λ e. absurd (omega (arith, e, k)), λ p. let (i, l, w) = met-one c t q m in absurd (omega (arith, w, p .1 i l)));
+      none = (λ e. (J .none .0 j, met-one c t q m), λ p. k);
+    }
+    go (inr (j, inr (m, k))) = record {
+      four = (λ e. absurd (omega (arith, e, k)), λ e. absurd (omega (arith, e, j)));
+      five = (λ e. absurd (omega (arith, e, k)), λ e. absurd (omega (arith, e, j)));
+      ten = (λ e. (J .none .0 j, met-none c t q m), λ p. k);
+      none = (λ e. absurd (omega (arith, e, k)), λ p. let (i, l, w) = p .1 in absurd (omega (arith, w, met-none c t q m i l)));
+    }
 
 -- ---- the two sums and the value of a query
 -- the two sums of a sound table, over the points of weight above 0
@@ -174,9 +142,13 @@ module _ (c : Settings) (t : Table) (U : Usable c t) (q : List ℤ) where
   value-sum = weighted-over c t (mapped c t (to-fine c t U)) (blurredValue c t) (value-off c t (suc (c .d))) q
 
 -- a query that is answered meets a point
-answered : (c : Settings) (t : Table) (q : List ℤ) → code c t q ≡ 0 → T (meets c t q)
-unfolding codeBy
-answered c t q = tested-zero (allNear q) (sumsToZero q) (meets c t q) (eqZ (weighted c t (blurredMass c t) q) (pos 0))
+answered : (c : Settings) (t : Table) → Usable c t → (q : List ℤ) → code c t q ≡ 0 → meets c t q ≡ true
+answered c t U q e = go (code-cases c t U q)
+  where
+    go : CodeCases c t q → meets c t q ≡ true
+    go (inl (h, k)) = absurd (h (sym k ∙ e))
+    go (inr (j, inl (m, k))) = m
+    go (inr (j, inr (m, k))) = absurd (omega (arith, e, k))
 
 -- "with value 0 beside any code but 0"
 value-given : (c : Settings) (t : Table) (q : List ℤ) → code c t q ≡ 0 → answer c t q ≡ rounded (weighted c t (blurredValue c t) q) (natAbs (weighted c t (blurredMass c t) q))
@@ -198,7 +170,7 @@ answer-between lo hi c t U h q e = rw (value-given c t q e) (rounded-between num
     den = weighted c t (blurredMass c t) q
 
     above : pos 1 ≤ℤ den
-    above = mass-sum-above c t q U (answered c t q e)
+    above = mass-sum-above c t q U (answered c t U q e)
 
     size-is : den ≡ pos (natAbs den)
     size-is = abs-pos (le-trans (le-out (pos 0) (pos 1) (omega arith)) above)
@@ -228,7 +200,7 @@ answers-fit c t U q = record {
     sized : (f : List ℤ → ℤ) → ((y : List ℤ) → Abs≤ (f y) most-blurred) → Abs≤ (weighedOver (c .d) ps f) (most-blurred * most-W)
     sized f h = weighed-small (c .d) ps (weights-light c (F .ranged) q) f most-blurred h
 
-    bound : {z : ℤ} → Abs≤ z (most-blurred * most-W) → Abs≤ z 2500000000000000000
+    bound : {z : ℤ} → Abs≤ z (most-blurred * most-W) → Abs≤ z most-fraction
     bound h = record { abs = omega (arith, h .abs) }
 
 -- ---- the answer depends on the map alone

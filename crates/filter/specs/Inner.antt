@@ -8,7 +8,7 @@ use lib.IntN.{ℤ, pos, negℤ, natAbs, _*ℤ_}
 use lib.ListN.{length, take}
 use lib.Signed.{_≤ℤ_}
 use Rattle.whole.specs.Size.{Abs≤}
-use Rattle.whole.specs.Rounding.{rounded}
+use Rattle.whole.specs.Rounding.{rounded, most-fraction}
 use Rattle.whole.specs.Sum.{over}
 use Rattle.whole.specs.Lists.{at, tab, collect}
 use Rattle.lattice.specs.Limits.{most-d, most-C, most-W, most-value}
@@ -55,8 +55,8 @@ sumsValue weight mass value = beside (sumsCode weight mass) (rounded value (natA
 -- Sums "below 2.5·10^18" whose quotient is a value; the mass sum may be 0.
 pub record Quotable (mass value : ℤ) : Type 0 where
   pub least : pos 0 ≤ℤ mass
-  pub mass-small : Abs≤ mass 2500000000000000000
-  pub value-small : Abs≤ value 2500000000000000000
+  pub mass-small : Abs≤ mass most-fraction
+  pub value-small : Abs≤ value most-fraction
   pub low : (negℤ (pos most-value) *ℤ mass) ≤ℤ value
   pub high : value ≤ℤ (pos most-value *ℤ mass)
 
@@ -84,7 +84,7 @@ pub record ReplyIs (c : Settings) (t : Table) (q : List ℤ) (value : ℤ) (code
   pub value-is : value ≡ valueBy c t (masses c t) (values c t) q
   pub code-is : code ≡ codeBy c t (masses c t) q
 
--- A query, and one value and one code for each.
+-- Such a table, and one value and one code for each query.
 pub record Answerable (c : Settings) (t : Table) (queries values : List ℤ) (codes : List ℕ) : Type 0 where
   pub smooth : Smooth c t
   pub values-size : length values ≡ queriesIn (c .d) (length queries)

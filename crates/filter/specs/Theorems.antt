@@ -1,20 +1,35 @@
 -- What is true of the answers. Statements: the proofs stand in proofs/.
 use mathlib.Core.Path.{_≡_}
+use mathlib.Core.Logic.{_↔_}
 use mathlib.Core.List.{List}
-use Prim.Native.Nat.{ℕ, suc}
+use Prim.Native.Nat.{ℕ, suc, _<_}
 use lib.Dec.{T}
 use lib.IntN.{ℤ}
-use lib.ListN.{length}
+use lib.ListN.{length, take}
 use Rattle.whole.specs.Size.{Abs≤, Within}
-use Rattle.lattice.specs.Refusals.{no-mass-met}
+use Rattle.whole.specs.Rounding.{most-fraction}
+use Rattle.whole.specs.Lists.{All}
+use Rattle.lattice.specs.Refusals.{coordinate-beyond, sum-not-zero, no-point-met, no-mass-met}
+use Rattle.lattice.specs.Position.{Position, judged}
 use Rattle.table.specs.Table.{Settings, Table, held}
-use Rattle.table.specs.Reading.{Reading, refusal, entered}
-use Rattle.table.specs.Calls.{ranged, fresh, mergeRefusal, merged}
+use Rattle.table.specs.Reading.{parsed}
+use Rattle.table.specs.Calls.{ranged, fresh, enter, afterMerge}
 use Rattle.table.specs.Theorems.{Usable}
 use Rattle.blur.specs.Blur.{masses, values, blurredMass, blurredValue}
 use Rattle.blur.specs.Theorems.{Between}
-use Rattle.filter.specs.Answer.{weighted, code, answer}
+use Rattle.filter.specs.Answer.{weightOf, weighted, code, answer}
 use Rattle.filter.specs.Filter.{Lent, Filters}
+
+-- each code of a query on a sound table is met exactly when its condition holds and no earlier one does: 4 and 5 as `judged` has them, 10 at a
+-- position for which no stored point has weight above 0, and 0 at one for which some has
+pub record Coded (c : Settings) (t : Table) (q : List ℤ) : Type 0 where
+  pub four : code c t q ≡ coordinate-beyond ↔ judged q ≡ coordinate-beyond
+  pub five : code c t q ≡ sum-not-zero ↔ judged q ≡ sum-not-zero
+  pub ten : code c t q ≡ no-point-met ↔ Position (c .d) q × ((i : ℕ) → i < t .m → weightOf c t q i ≡ 0)
+  pub none : code c t q ≡ 0 ↔ Position (c .d) q × ((i : ℕ) × (i < t .m) × (0 < weightOf c t q i))
+
+abbrev pub CodedRight : Type 0
+CodedRight = (c : Settings) (t : Table) → Usable c t → (q : List ℤ) → length q ≡ suc (c .d) → Coded c t q
 
 -- 11 is never met on a sound table
 abbrev pub NeverEleven : Type 0
@@ -27,15 +42,14 @@ ValuesBetween lo hi c t = Between lo hi (masses c t) (values c t)
 abbrev pub FreshBetween : Type 0
 FreshBetween = (lo hi : ℤ) (c : Settings) → T (ranged c) → ValuesBetween lo hi c (fresh c)
 
--- after a reading whose value does,
+-- after any call of enter that took only readings whose values do,
 abbrev pub EnterBetween : Type 0
-EnterBetween = (lo hi : ℤ) (c : Settings) (t : Table) (r : Reading) → length (r .place) ≡ suc (c .d) → Usable c t → refusal c t r ≡ 0
-    → ValuesBetween lo hi c t → Within lo hi (r .value) → ValuesBetween lo hi c (entered c t r)
+EnterBetween = (lo hi : ℤ) (c : Settings) (t : Table) (l : List ℤ) → ValuesBetween lo hi c t
+    → All (λ r. Within lo hi (r .value)) (take ((enter c t l) .taken) (parsed (c .d) l)) → ValuesBetween lo hi c ((enter c t l) .table)
 
--- and after a merge of two such tables;
+-- and after any merge of two such tables;
 abbrev pub MergeBetween : Type 0
-MergeBetween = (lo hi : ℤ) (c : Settings) (t : Table) (b : Settings) (s : Table) → mergeRefusal c t b s ≡ 0
-    → ValuesBetween lo hi c t → ValuesBetween lo hi b s → ValuesBetween lo hi c (merged c t b s)
+MergeBetween = (lo hi : ℤ) (c : Settings) (t : Table) (b : Settings) (s : Table) → ValuesBetween lo hi c t → ValuesBetween lo hi b s → ValuesBetween lo hi c (afterMerge c t b s)
 
 -- and an answer given lies between lo and hi
 abbrev pub AnswerBetween : Type 0
@@ -44,8 +58,8 @@ AnswerBetween = (lo hi : ℤ) (c : Settings) (t : Table) → Usable c t → Valu
 
 -- "384·4,096·1,000,000·4^6·384 is below 2.5·10^18": nothing leaves 64 bits
 pub record SumsFit (c : Settings) (t : Table) (q : List ℤ) : Type 0 where
-  pub mass-fits : Abs≤ (weighted c t (blurredMass c t) q) 2500000000000000000
-  pub value-fits : Abs≤ (weighted c t (blurredValue c t) q) 2500000000000000000
+  pub mass-fits : Abs≤ (weighted c t (blurredMass c t) q) most-fraction
+  pub value-fits : Abs≤ (weighted c t (blurredValue c t) q) most-fraction
 
 abbrev pub AnswersFit : Type 0
 AnswersFit = (c : Settings) (t : Table) → Usable c t → (q : List ℤ) → SumsFit c t q

@@ -37,7 +37,11 @@ pub record RoundingCases : Type 0 where
   pub third : rounded (pos 1) 3 ≡ pos 0
   pub minus-two-thirds : rounded (negsuc 1) 3 ≡ negsuc 0
 
--- A fraction that a program rounds in 64 bits: "below 2.5·10^18", and the divisor is positive.
+-- "below 2.5·10^18"
+abbrev pub most-fraction : ℕ
+most-fraction = 2500000000000000000
+
+-- A fraction that a program rounds in 64 bits: both parts are small, and the divisor is positive.
 pub record Fraction (num den : ℤ) : Type 0 where
-  pub num-small : Abs≤ num 2500000000000000000
-  pub den-small : Within (pos 1) (pos 2500000000000000000) den
+  pub num-small : Abs≤ num most-fraction
+  pub den-small : Within (pos 1) (pos most-fraction) den
