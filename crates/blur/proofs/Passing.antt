@@ -2,7 +2,7 @@
 use mathlib.Core.Path.{_≡_, refl, sym, ap, ap₂, subst, _∙_}
 use mathlib.Core.Bool.{Bool, true, false}
 use mathlib.Core.List.{List}
-use Prim.Native.Nat.{ℕ, zero, suc, _+_, _-_, _*_, _≤_, _<_}
+use Prim.Native.Nat.{ℕ, suc, _+_, _-_, _*_, _≤_, _<_}
 use native.Mathlib.Nat.{le-refl, mul-le-mul}
 use native.Mathlib.Decide.{ℕ-discrete}
 use native.Mathlib.Omega.{arith}
@@ -16,12 +16,12 @@ use Rattle.whole.specs.Lists.{at}
 use Rattle.whole.proofs.Parts.{sfits-make}
 use Rattle.whole.proofs.Readings.{W64}
 use Rattle.index.proofs.Equality.{keyAt-length, key-part}
-use Rattle.table.specs.Table.{Settings, Table, key, found, pairAt, held}
+use Rattle.table.specs.Table.{Settings, Table, key, held}
 use Rattle.table.specs.Pour.{setPair}
 use Rattle.table.proofs.Store.{pair-length, pair-mass, pair-value, pair-else}
 use Rattle.blur.specs.Blur.{plusStep, minusStep, pass, isStored, masses, values}
 use Rattle.blur.specs.Inner.{most-blurred, Movable, neighbourOf, PairIs, Passable, NewPair, Passed}
-use Rattle.blur.proofs.Stored.{own-stored, own-pair}
+use Rattle.blur.proofs.Stored.{own-stored, own-pair, held-small}
 
 -- ---- numbers of a sheet
 -- each is small enough to be what is read back from its bits
@@ -44,15 +44,11 @@ pass-stored stored d k f y e = rw e refl
 
 -- what is found for a key is a number of the sheet, or 0
 module _ (c : Settings) (t : Table) (Q : Passable c t) where
-  entry-small : (n : ℕ) → Abs≤ (pairAt (t .sums) n .0) most-blurred × Abs≤ (pairAt (t .sums) n .1) most-blurred
-  entry-small zero = (record { abs = omega arith }, record { abs = omega arith })
-  entry-small (suc i) = (Q .small (2 * i), Q .small (2 * i + 1))
-
   mass-small : {y : List ℤ} {stored : Bool} {mass value : ℤ} → PairIs c t y stored mass value → Abs≤ mass most-blurred
-  mass-small {y} P = rw (P .mass-is) (entry-small (found c t y) .0)
+  mass-small {y} P = rw (P .mass-is) (held-small c t (Q .readable) most-blurred (Q .small) y .0)
 
   value-small : {y : List ℤ} {stored : Bool} {mass value : ℤ} → PairIs c t y stored mass value → Abs≤ value most-blurred
-  value-small {y} P = rw (P .value-is) (entry-small (found c t y) .1)
+  value-small {y} P = rw (P .value-is) (held-small c t (Q .readable) most-blurred (Q .small) y .1)
 
 module _ (c : Settings) (t : Table) (Q : Passable c t) (i : ℕ) (l : i < t .m) where
   -- ---- the key of point i

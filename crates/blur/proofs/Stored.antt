@@ -2,12 +2,14 @@
 use mathlib.Core.Path.{_≡_, refl, ap, subst}
 use mathlib.Core.Bool.{true, false}
 use mathlib.Core.List.{List}
-use Prim.Native.Nat.{ℕ, zero, suc, _*_, _<_}
+use Prim.Native.Nat.{ℕ, zero, suc, _+_, _*_, _<_}
 use native.Mathlib.Omega.{arith}
 use lib.Dec.{T, ltb, lt→ltb}
 use lib.IntN.{ℤ, pos}
 use lib.ListN.{length}
 use borrow.Author.Tests.{lt-ltb}
+use Rattle.whole.specs.Size.{Abs≤}
+use Rattle.whole.specs.Lists.{at}
 use Rattle.index.proofs.Finding.{found-low}
 use Rattle.table.specs.Table.{Settings, Table, key, mass, value, entry, found, pairAt, held}
 use Rattle.table.specs.Inner.{Fine}
@@ -46,3 +48,7 @@ module _ (c : Settings) (t : Table) (R : Readable c t) where
       go : (e : ℕ) → found c t y ≡ e → Q (pairAt (t .sums) e .0) (pairAt (t .sums) e .1)
       go zero p = z
       go (suc i) p = h i (found-low (c .C) (t .m) (key c t) (entry t) (R .ranged .C-least) (R .indexed .sparse) y i p)
+
+  -- where no number of the sheet is greater than B, none that is held is
+  pub held-small : (B : ℕ) → ((j : ℕ) → Abs≤ (at (t .sums) j) B) → (y : List ℤ) → Abs≤ (masses c t y) B × Abs≤ (values c t y) B
+  held-small B h = every-pair (λ m v. Abs≤ m B × Abs≤ v B) (record { abs = omega arith }, record { abs = omega arith }) (λ i l. (h (2 * i), h (2 * i + 1)))

@@ -1,14 +1,14 @@
 -- The passes on two sheets: a pass there and back leaves the next sheet in the first, from the table's own pairs to those after the last pass.
 use mathlib.Core.Path.{_≡_, refl, sym, ap, ap₂, _∙_, subst, fun-ext}
 use mathlib.Core.List.{List}
-use Prim.Native.Nat.{ℕ, zero, suc, _+_, _*_, _^_, _<_, _≤_}
+use Prim.Native.Nat.{ℕ, suc, _+_, _*_, _^_, _<_, _≤_}
 use native.Mathlib.Nat.{pow-le-pow-right}
 use native.Mathlib.Omega.{arith}
 use lib.IntN.{ℤ, pos}
 use lib.ListN.{length, take}
 use Rattle.whole.specs.Size.{Abs≤}
 use Rattle.whole.specs.Lists.{at, splice}
-use Rattle.table.specs.Table.{Settings, Table, key, found, pairAt, held}
+use Rattle.table.specs.Table.{Settings, Table, key, held}
 use Rattle.blur.specs.Blur.{pass, passes, isStored, masses, values, massAfter, valueAfter}
 use Rattle.blur.specs.Sheet.{sheet, sheetAfter, withSums}
 use Rattle.blur.specs.Inner.{most-sum, most-blurred, Readable, Passed, Returning, passedSheet, Blurrable}
@@ -16,7 +16,7 @@ use Rattle.blur.proofs.Copying.{copied-length, copied-in, copied-past}
 use Rattle.blur.proofs.Passes.{passes-small}
 use Rattle.blur.proofs.Sheets.{each-place, sheet-is, sheet-length, sheet-mass, sheet-value, sheet-rest, sheet-held}
 use Rattle.blur.proofs.Theorems.{mass-off, value-off}
-use Rattle.blur.proofs.Stored.{sheet-readable, own-pair}
+use Rattle.blur.proofs.Stored.{sheet-readable, own-pair, held-small}
 
 -- ---- the new pairs, copied back
 pub passed-back : {first : List ℤ} (c : Settings) (t : Table) (k : ℕ) (second to : List ℤ) → Returning c t second → Passed c t k (t .m) to
@@ -66,27 +66,22 @@ module _ (c : Settings) (t : Table) (second : List ℤ) (B : Blurrable c t secon
   pub start-is : t .sums ≡ sheetAfter c t 0
   start-is = own-sheet c t (B .readable) (t .sums) (B .readable .shape .sums) (λ j h. refl) (B .rest)
 
-  -- a table's numbers are those of the sheet, or 0
-  held-small : (y : List ℤ) → Abs≤ (masses c t y) most-sum × Abs≤ (values c t y) most-sum
-  held-small y = go (found c t y)
-    where
-      go : (e : ℕ) → Abs≤ (pairAt (t .sums) e .0) most-sum × Abs≤ (pairAt (t .sums) e .1) most-sum
-      go zero = (record { abs = omega arith }, record { abs = omega arith })
-      go (suc i) = (B .small (2 * i), B .small (2 * i + 1))
+  small : (y : List ℤ) → Abs≤ (masses c t y) most-sum × Abs≤ (values c t y) most-sum
+  small = held-small c t (B .readable) most-sum (B .small)
 
   -- "4^6·384·4,096·1,000,000": four times as great at most after each pass
   passed-small : (n : ℕ) → n ≤ c .d → (f : List ℤ → ℤ) → ((y : List ℤ) → Abs≤ (f y) most-sum) → (y : List ℤ) → Abs≤ (passes (isStored c t) (c .d) n f y) most-blurred
-  passed-small n h f small y =
+  passed-small n h f s y =
       let few : n ≤ 6 = omega (arith, B .readable .ranged .d-most) in
       let p : 4 ^ n ≤ 4 ^ 6 = pow-le-pow-right (omega arith) few in
-      let q = passes-small (isStored c t) (c .d) most-sum f small n y in
+      let q = passes-small (isStored c t) (c .d) most-sum f s n y in
       record { abs = omega (arith, p, q .abs) }
 
   after-small : (n : ℕ) → n ≤ c .d → (j : ℕ) → Abs≤ (at (sheetAfter c t n) j) most-blurred
   unfolding massAfter valueAfter
   after-small n h = each-place (λ j. Abs≤ (at (sheetAfter c t n) j) most-blurred) (t .m)
-      (λ i l. rw (sheet-mass c t (massAfter c t n) (valueAfter c t n) i l) (passed-small n h (masses c t) (λ y. held-small y .0) (key c t i)))
-      (λ i l. rw (sheet-value c t (massAfter c t n) (valueAfter c t n) i l) (passed-small n h (values c t) (λ y. held-small y .1) (key c t i)))
+      (λ i l. rw (sheet-mass c t (massAfter c t n) (valueAfter c t n) i l) (passed-small n h (masses c t) (λ y. small y .0) (key c t i)))
+      (λ i l. rw (sheet-value c t (massAfter c t n) (valueAfter c t n) i l) (passed-small n h (values c t) (λ y. small y .1) (key c t i)))
       (λ j l. rw (sheet-rest c t (massAfter c t n) (valueAfter c t n) j l) (record { abs = omega arith }))
 
   pub returning : {first to : List ℤ} (n : ℕ) → n ≤ c .d → first ≡ sheetAfter c t n → length to ≡ length second → Returning c (withSums t first) to

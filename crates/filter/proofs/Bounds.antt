@@ -16,7 +16,7 @@ use Rattle.lattice.specs.Limits.{most-W, most-value}
 use Rattle.table.specs.Table.{Settings, Table, mass}
 use Rattle.blur.specs.Blur.{masses, values}
 use Rattle.blur.specs.Inner.{most-blurred}
-use Rattle.blur.proofs.Stored.{every-pair}
+use Rattle.blur.proofs.Stored.{every-pair, held-small}
 use Rattle.filter.specs.Inner.{weighedOver, WeighedIs, Smooth, Quotable}
 
 -- ---- a number of each point, weighed
@@ -69,16 +69,14 @@ module _ (d : ℕ) where
 
 -- ---- the sums over a sheet of blurred pairs
 module _ (c : Settings) (t : Table) (A : Smooth c t) (ps : List (List ℤ × ℕ)) (light : over ps (λ p. pos (p .1)) ≤ℤ pos most-W) (w m v : ℤ) (S : WeighedIs c t ps w m v) where
-  none : Abs≤ (pos 0) most-blurred
-  none = record { abs = omega arith }
+  small : (y : List ℤ) → Abs≤ (masses c t y) most-blurred × Abs≤ (values c t y) most-blurred
+  small = held-small c t (A .mapped .readable) most-blurred (A .small)
 
   mass-small : Abs≤ m (most-blurred * most-W)
-  mass-small = rw (S .mass-is) (weighed-small (c .d) ps light (masses c t) most-blurred
-      (every-pair c t (A .mapped .readable) (λ a b. Abs≤ a most-blurred) none (λ i l. A .small (2 * i))))
+  mass-small = rw (S .mass-is) (weighed-small (c .d) ps light (masses c t) most-blurred (λ y. small y .0))
 
   value-small : Abs≤ v (most-blurred * most-W)
-  value-small = rw (S .value-is) (weighed-small (c .d) ps light (values c t) most-blurred
-      (every-pair c t (A .mapped .readable) (λ a b. Abs≤ b most-blurred) none (λ i l. A .small (2 * i + 1))))
+  value-small = rw (S .value-is) (weighed-small (c .d) ps light (values c t) most-blurred (λ y. small y .1))
 
   mass-least : pos 0 ≤ℤ m
   mass-least = rw (S .mass-is, ← *-zero (weighedOver (c .d) ps (masses c t))) (weighed-low (c .d) ps (pos 0) (masses c t) (masses c t)

@@ -27,7 +27,7 @@ use Rattle.table.specs.Table.{Settings, Table, found, pairAt}
 use Rattle.table.proofs.Lists.{collect-parts}
 use Rattle.blur.specs.Blur.{isStored, masses, values}
 use Rattle.blur.specs.Inner.{most-blurred, Readable, PairIs}
-use Rattle.blur.proofs.Stored.{every-pair}
+use Rattle.blur.proofs.Stored.{held-small}
 use Rattle.filter.specs.Inner.{ones, weighedOver, WeighedIs, Weighable}
 use Rattle.filter.proofs.Bounds.{weighed-small}
 
@@ -69,8 +69,7 @@ pub record Fitting (weight mass value : ℤ) : Type 0 where
 -- ---- a sheet of numbers that are small
 module _ (c : Settings) (t : Table) (R : Readable c t) (small : (j : ℕ) → Abs≤ (at (t .sums) j) most-blurred) where
   sheet-small : (y : List ℤ) → Abs≤ (masses c t y) most-blurred × Abs≤ (values c t y) most-blurred
-  sheet-small = every-pair c t R (λ a b. Abs≤ a most-blurred × Abs≤ b most-blurred) (record { abs = omega arith }, record { abs = omega arith })
-      (λ i l. (small (2 * i), small (2 * i + 1)))
+  sheet-small = held-small c t R most-blurred small
 
   -- the pair of a point is small, and is what is read back from its bits
   module _ {y : List ℤ} {stored : Bool} {mass value : ℤ} (X : PairIs c t y stored mass value) where

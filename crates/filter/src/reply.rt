@@ -27,8 +27,8 @@ fn refused(code: u8) -> Reply
     Reply { value: 0, code }
 }
 
-// The reply of the sums at a position: 10 where no stored point has weight above 0, 11 where those that
-// have are without mass, else the rounded quotient.
+// The reply of the sums at a position: 10 where no stored point has weight above 0, 11 where one has but
+// the mass sum is 0, else the rounded quotient.
 fn quotient(sums: Weighed) -> Reply
     requires { ⌜ Quotable (sums .mass) (sums .value) ⌝ }
     ensures { λ r. ⌜ QuotientIs (sums .weight) (sums .mass) (sums .value) (r .value) (r .code) ⌝ }
