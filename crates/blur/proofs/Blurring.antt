@@ -10,11 +10,11 @@ use Rattle.whole.specs.Lists.{at, splice}
 use Rattle.lattice.specs.Limits.{most-d, farthest-point}
 use Rattle.table.specs.Table.{Settings, Table, Row, key, row}
 use Rattle.table.specs.Sound.{Good}
+use Rattle.table.proofs.Good.{kept-at}
 use Rattle.table.proofs.Soundness.{of-fine}
 use Rattle.table.proofs.Theorems.{sums-small}
 use Rattle.blur.specs.Sheet.{sheetAfter, withSums}
 use Rattle.blur.specs.Inner.{most-sum, Movable, Readable, Blurrable, Sheets, Blurred}
-use Rattle.blur.proofs.Neighbours.{kept-at}
 use Rattle.blur.proofs.Copying.{copied-length, copied-in, copied-past}
 use Rattle.blur.proofs.Sheets.{zeros, each-place}
 use Rattle.blur.proofs.Turning.{own-sheet, own-sheets}

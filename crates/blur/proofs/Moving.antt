@@ -8,7 +8,7 @@ use native.Mathlib.Omega.{arith}
 use lib.Dec.{lit<}
 use lib.IntN.{ℤ, pos, negℤ, _+ℤ_, _-ℤ_}
 use lib.ListN.{length, set, take, replicate, length-set}
-use lib.Seq.{length-take-le, getD-take, getD-set-same, getD-set-other}
+use lib.Seq.{length-take-le, getD-take}
 use mir.Syntax.{w32}
 use mir.Val.{SFits}
 use mir.Facts.{toZ-ofZ}
@@ -17,7 +17,7 @@ use Rattle.whole.specs.Size.{Abs≤}
 use Rattle.whole.specs.Lists.{at, tab}
 use Rattle.whole.proofs.Readings.{zlin, W32}
 use Rattle.whole.proofs.Size.{zabs, back32}
-use Rattle.whole.proofs.Lists.{tab-is}
+use Rattle.whole.proofs.Lists.{tab-is, place-more}
 use Rattle.lattice.specs.Limits.{most-d, farthest-point}
 use Rattle.blur.specs.Blur.{step, plusStep, minusStep}
 use Rattle.blur.specs.Inner.{Movable, neighbourOf}
@@ -71,11 +71,7 @@ pub filled-none : (f : ℕ → ℤ) → Filled 0 f (replicate 5 (pos 0))
 filled-none f = record { places = refl; each = λ i h. absurd (omega arith) }
 
 pub filled-more : {l : List ℤ} {v : ℤ} (n : ℕ) (f : ℕ → ℤ) → n < 5 → Filled n f l → v ≡ f n → Filled (n + 1) f (set l n v)
-filled-more {l} {v} n f h F e = record { places = length-set l n v ∙ F .places; each = λ i q. go i q (ℕ-discrete i n) }
-  where
-    go : (i : ℕ) → i < n + 1 → Dec (i ≡ n) → at (set l n v) i ≡ f i
-    go i q (yes k) = rw k (getD-set-same l n v (pos 0) (omega (arith, F .places)) ∙ e)
-    go i q (no k) = getD-set-other l n i v (pos 0) k ∙ F .each i (omega arith)
+filled-more {l} {v} n f h F e = record { places = length-set l n v ∙ F .places; each = place-more f l (pos 0) n v (omega (arith, F .places)) e (F .each) }
 
 pub filled-take : {l : List ℤ} (n : ℕ) (f : ℕ → ℤ) → n ≤ 5 → Filled n f l → take n l ≡ tab n f
 filled-take {l} n f h F = tab-is n f (take n l) (pos 0) (length-take-le n l (omega (arith, F .places))) (λ i q. getD-take n l i (pos 0) q ∙ F .each i q)

@@ -3,15 +3,15 @@
 use mathlib.Core.Path.{_≡_, refl, sym, ap, ap₂, _∙_}
 use mathlib.Core.Logic.{_⊎_, inl, inr}
 use mathlib.Core.Bool.{Bool, true, false, cond}
-use mathlib.Core.List.{List, [], _∷_}
+use mathlib.Core.List.{List}
 use Prim.Native.Nat.{ℕ, suc, _<_}
 use native.Mathlib.Nat.{eq-or-lt-of-le, le-of-suc-le-suc}
 use native.Mathlib.Omega.{arith}
 use lib.IntN.{ℤ, pos, negsuc, negℤ, _+ℤ_, _-ℤ_, _*ℤ_}
 use lib.Dec.{eqb, eqb→eq, eqb-refl}
-use lib.ListN.{length, List·getD-append}
+use lib.ListN.{length}
 use Rattle.whole.specs.Floor.{floor, remainder}
-use Rattle.whole.specs.Sum.{sum, over}
+use Rattle.whole.specs.Sum.{sum}
 use Rattle.whole.specs.Lists.{at, tab}
 use Rattle.whole.proofs.Linear.{on, difs, ints}
 use Rattle.whole.proofs.Floor.{div-rem, remainder-shift}
@@ -21,7 +21,7 @@ use Rattle.whole.proofs.Ring.{minus-plus}
 use Rattle.lattice.specs.Lattice.{Lattice, Point}
 use Rattle.lattice.proofs.Points.{lattice-cong}
 use Rattle.table.specs.Table.{whole}
-use Rattle.table.proofs.Good.{whole-size, whole-sum}
+use Rattle.table.proofs.Good.{whole-size, whole-sum, kept-at}
 use Rattle.blur.specs.Blur.{step, plusStep, minusStep}
 use Rattle.blur.specs.Theorems.{StepsAreLattice}
 
@@ -102,11 +102,6 @@ first-tell d f g F G e i l = go (eq-or-lt-of-le (le-of-suc-le-suc l))
     go : (i ≡ d) ⊎ (i < d) → f i ≡ g i
     go (inl q) = rw q (lin (sum d f) (sum d g) (f d) (g d) F G (sum-cong d f g e))
     go (inr q) = e i q
-
--- the first coordinates of a point are its key's
-pub kept-at : (k : List ℤ) (i : ℕ) → i < length k → at (whole k) i ≡ at k i
-unfolding whole
-kept-at k i l = List·getD-append k (negℤ (over k (λ z. z)) ∷ []) (pos 0) i l
 
 module _ (d : ℕ) (y : List ℤ) (size : length y ≡ d) (Y : Point d (whole y)) (g : ℕ → ℤ) (G : Lattice (suc d) g) where
   abbrev moved : List ℤ

@@ -15,6 +15,7 @@ use Rattle.table.specs.Reading.{Reading, parsed, refusal, entered}
 use Rattle.table.specs.Inner.{Fine}
 use Rattle.table.specs.Calls.{fresh, Outcome, enterAll, enterRefusal, enter, mergeRefusal, merged, afterMerge}
 use Rattle.table.specs.Theorems.{Usable, plus}
+use Rattle.table.proofs.Good.{key-whole}
 use Rattle.table.proofs.Soundness.{to-fine, of-fine}
 use Rattle.table.proofs.Keeping.{called, parsed-size}
 use Rattle.table.proofs.Entering.{enter-ind}
@@ -23,7 +24,6 @@ use Rattle.table.proofs.Theorems.{fresh-holds, enter-keeps, enter-adds, merge-a
 use Rattle.blur.proofs.Stored.{every-pair}
 use Rattle.filter.specs.Inner.{Mapped}
 use Rattle.filter.specs.Theorems.{ValuesBetween, FreshBetween, EnterBetween, MergeBetween}
-use Rattle.filter.proofs.Weighing.{key-whole}
 use Rattle.filter.proofs.Answers.{mapped}
 
 -- of a mass and a value sum: they are both 0, or added up, or a weight and the weight times a value

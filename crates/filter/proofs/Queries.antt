@@ -3,14 +3,12 @@ use mathlib.Core.Path.{_≡_, ap, subst, _∙_}
 use mathlib.Core.List.{List}
 use Prim.Native.Nat.{ℕ, suc, _+_, _*_, _-_, _/_, _≤_, _<_}
 use native.Mathlib.Nat.{mul-le-mul-left, div-add-mod, div-le-self, not-suc-le-zero}
-use native.Mathlib.Decide.{ℕ-discrete}
 use native.Mathlib.Numerals.{add-one}
 use native.Mathlib.Omega.{arith}
 use lib.IntN.{ℤ, pos}
 use lib.ListN.{length, getD, set, take, drop, length-set}
-use lib.Seq.{getD-set-same, getD-set-other}
 use Rattle.whole.specs.Lists.{at, tab}
-use Rattle.whole.proofs.Lists.{part-tab, tab-is}
+use Rattle.whole.proofs.Lists.{part-tab, tab-is, place-more}
 use Rattle.table.specs.Table.{Settings, Table}
 use Rattle.blur.specs.Blur.{masses, values}
 use Rattle.filter.specs.Answer.{codeBy, valueBy}
@@ -41,14 +39,6 @@ pub record Answered (c : Settings) (t : Table) (queries : List ℤ) (n : ℕ) (v
 
 pub none-answered : {c : Settings} {t : Table} {queries values′ : List ℤ} {codes : List ℕ} → Answerable c t queries values′ codes → Answered c t queries 0 values′ codes
 none-answered A = record { values-size = A .values-size; codes-size = A .codes-size; value-at = λ j l. absurd (not-suc-le-zero l); code-at = λ j l. absurd (not-suc-le-zero l) }
-
--- a place more has what it should
-place-more : {A : Type 0} (f : ℕ → A) (l : List A) (z : A) (j : ℕ) (v : A) → j < length l → v ≡ f j → ((i : ℕ) → i < j → getD l i z ≡ f i) → (i : ℕ) → i < j + 1 → getD (set l j v) i z ≡ f i
-place-more f l z j v h e k i g = go (ℕ-discrete i j)
-  where
-    go : Dec (i ≡ j) → getD (set l j v) i z ≡ f i
-    go (yes q) = rw q (getD-set-same l j v z h ∙ e)
-    go (no q) = getD-set-other l j i v z q ∙ k i (omega arith)
 
 module _ {c : Settings} {t : Table} {queries values′ : List ℤ} {codes : List ℕ} (j : ℕ) (h : j < length queries / (c .d + 1)) (A : Answered c t queries j values′ codes) where
   pub value-in : j < length values′

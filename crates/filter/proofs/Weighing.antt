@@ -8,7 +8,6 @@ use native.Mathlib.Omega.{arith}
 use lib.Dec.{T, eqb, eqb→eq}
 use lib.IntN.{ℤ, *ℤ-zero, pos, _*ℤ_}
 use lib.ListN.{length, getD, take}
-use lib.Seq.{take-at}
 use lib.Signed.{_≤ℤ_, ≤ℤ-refl}
 use Rattle.whole.specs.Sum.{sum, over, all}
 use Rattle.whole.specs.Lists.{at, tab, collect}
@@ -34,6 +33,7 @@ use Rattle.table.specs.Table.{Settings, Table, key, entry, found, whole, rows}
 use Rattle.table.specs.Inner.{Ranged, massOf}
 use Rattle.table.specs.Reading.{Reading, share, shares, parsed, refusal}
 use Rattle.table.proofs.Lists.{over-map}
+use Rattle.table.proofs.Good.{key-whole}
 use Rattle.table.proofs.Rows.{gives}
 use Rattle.table.proofs.Soundness.{W-most}
 use Rattle.table.proofs.Shares.{share-given}
@@ -50,11 +50,6 @@ use Rattle.filter.specs.Worked.{AnswerCases}
 pub answer-cases : AnswerCases
 unfolding floor remainder rounded sum over all tab collect word first allNear sumsToZero best spread weight corner lastOf points same keyAt hash home walk sought count sparse finding rows whole goodKey goodPair indexed sound setPair append raise pour news parsed shares refusal ranged fits fresh enterAll callRefusal enter step plusStep minusStep pass passes massAfter valueAfter weighted meets codeBy valueBy
 answer-cases = record { value-sum = refl; mass-sum = refl; answer-between = refl; answer-near = refl; code-near = refl; answer-far = refl; code-far = refl }
-
--- the kept coordinates of a whole point
-pub key-whole : (d : ℕ) (k : List ℤ) → length k ≡ d → take d (whole k) ≡ k
-unfolding whole
-key-whole d k e = take-at k _ d e
 
 -- a sum over the weighed points, by the points
 over-weighed : (d S : ℕ) (q : List ℤ) (g : List ℤ × ℕ → ℤ) → over (weighed d S q) g ≡ over (points d S q) (λ y. g (y, weight d S (at q) (at y)))

@@ -5,7 +5,7 @@ use mathlib.Core.List.{List, []}
 use Prim.Native.Nat.{ℕ, suc, _<_}
 use lib.Dec.{T, eqb, leb, leb→le}
 use lib.IntN.{ℤ, pos, negℤ, natAbs}
-use lib.ListN.{length, List·getD-append}
+use lib.ListN.{length}
 use lib.Seq.{getD-append-seam}
 use Rattle.whole.specs.Size.{Abs≤}
 use Rattle.whole.specs.Floor.{remainder}
@@ -17,6 +17,7 @@ use Rattle.whole.proofs.Tests.{and-l, and-r, and-i, all-at, all-of, all-stop, T
 use Rattle.lattice.specs.Limits.{farthest-point}
 use Rattle.table.specs.Table.{whole}
 use Rattle.table.specs.Sound.{goodKey}
+use Rattle.table.proofs.Good.{kept-at}
 use Rattle.soundness.specs.Inner.{goodCoordinate}
 
 all-cong : (n : ℕ) (f g : ℕ → Bool) → ((i : ℕ) → i < n → f i ≡ g i) → all n f ≡ all n g
@@ -36,10 +37,6 @@ pub coordinate-near : (n k : ℕ) (c : ℤ) → goodCoordinate n k c ≡ true �
 coordinate-near n k c e = abs-of c farthest-point (leb→le (natAbs c) farthest-point (and-l (leb (natAbs c) farthest-point) (eqb (remainder c n) k) (subst T (sym e) tt)))
 
 module _ (k : List ℤ) where
-  at-kept : (j : ℕ) → j < length k → at (whole k) j ≡ at k j
-  unfolding whole
-  at-kept j l = List·getD-append k _ (pos 0) j l
-
   at-last : at (whole k) (length k) ≡ negℤ (sum (length k) (at k))
   unfolding whole
   at-last = getD-append-seam k (negℤ (over k (λ z. z))) [] (pos 0) ∙ ap negℤ (sym (sum-list k (pos 0) (λ z. z)))
@@ -52,9 +49,9 @@ module _ (k : List ℤ) where
     unfolding goodKey all
     key-is =
         let d = length k in
-        let first : remainder (at (whole k) 0) (suc d) ≡ r = ap (λ (z : ℤ). remainder z (suc d)) (at-kept 0 some) ∙ ap (remainder (at k 0)) (sym n-is) ∙ sym r-is in
+        let first : remainder (at (whole k) 0) (suc d) ≡ r = ap (λ (z : ℤ). remainder z (suc d)) (kept-at k 0 some) ∙ ap (remainder (at k 0)) (sym n-is) ∙ sym r-is in
         all-both (suc d) (λ j. eqb (remainder (at (whole k) j) (suc d)) (remainder (at (whole k) 0) (suc d))) (λ j. leb (natAbs (at (whole k) j)) farthest-point)
-        ∙ rw (first, ← n-is) (ap (λ (b : Bool). b && goodCoordinate n r (at (whole k) d)) (all-cong d (λ j. goodCoordinate n r (at (whole k) j)) (of-key n r) (λ j l. ap (goodCoordinate n r) (at-kept j l)))
+        ∙ rw (first, ← n-is) (ap (λ (b : Bool). b && goodCoordinate n r (at (whole k) d)) (all-cong d (λ j. goodCoordinate n r (at (whole k) j)) (of-key n r) (λ j l. ap (goodCoordinate n r) (kept-at k j l)))
         ∙ ap (λ (z : ℤ). all d (of-key n r) && goodCoordinate n r z) at-last)
 
     pub key-stop : {t : Bool} (j : ℕ) → j < length k → t ≡ of-key n r j → t ≡ false → false ≡ goodKey (length k) k

@@ -6,7 +6,8 @@ use native.Mathlib.Omega.{arith}
 use lib.IntN.{ℤ, pos, negℤ, natAbs, _+ℤ_, _*ℤ_}
 use lib.Signed.{leZ, _≤ℤ_, leZ-yes}
 use lib.Dec.{T, eqb, eqb→eq, leb, leb→le, le→leb}
-use lib.ListN.{length, take, length-append, length-take}
+use lib.ListN.{length, take, length-append, length-take, List·getD-append}
+use lib.Seq.{take-at}
 use Rattle.whole.specs.Size.{Abs≤}
 use Rattle.whole.specs.Floor.{remainder}
 use Rattle.whole.specs.Sum.{sum, over}
@@ -49,6 +50,16 @@ key-tells d y z Y Z e = sym (whole-key d y Y) ∙ ap whole e ∙ whole-key d z Z
 pub whole-size : (k : List ℤ) → length (whole k) ≡ suc (length k)
 unfolding whole
 whole-size k = length-append k (negℤ (over k (λ z. z)) ∷ []) ∙ omega arith
+
+-- the first coordinates of a point are its key's
+pub kept-at : (k : List ℤ) (i : ℕ) → i < length k → at (whole k) i ≡ at k i
+unfolding whole
+kept-at k i l = List·getD-append k (negℤ (over k (λ z. z)) ∷ []) (pos 0) i l
+
+-- the kept coordinates of a whole point
+pub key-whole : (d : ℕ) (k : List ℤ) → length k ≡ d → take d (whole k) ≡ k
+unfolding whole
+key-whole d k e = take-at k _ d e
 
 pub whole-sum : (d : ℕ) (k : List ℤ) → length k ≡ d → sum (suc d) (at (whole k)) ≡ pos 0
 unfolding whole over

@@ -44,6 +44,14 @@ module _ {A : Type 0} where
           go (yes k) = rw k (getD-set-same (tab n f) i v v (rw (length-tab n f) p) ∙ e)
           go (no k) = getD-set-other (tab n f) i j v v k ∙ getD-tab n f j v q ∙ h j q k
 
+  -- a list filled from the front: the places before i have f, and after a store at i the place i has it too
+  pub place-more : (f : ℕ → A) (l : List A) (z : A) (i : ℕ) (v : A) → i < length l → v ≡ f i → ((j : ℕ) → j < i → getD l j z ≡ f j) → (j : ℕ) → j < i + 1 → getD (set l i v) j z ≡ f j
+  place-more f l z i v h e k j g = go (ℕ-discrete j i)
+    where
+      go : Dec (j ≡ i) → getD (set l i v) j z ≡ f j
+      go (yes q) = rw q (getD-set-same l i v z h ∙ e)
+      go (no q) = getD-set-other l i j v z q ∙ k j (omega arith)
+
   -- ---- a stretch put into a list
   pub length-splice : (l : List A) (a : ℕ) (v : List A) → a + length v ≤ length l → length (splice l a v) ≡ length l
   length-splice l a v h = simp (length-append, length-take-le a l (omega arith), length-drop) (omega arith)
