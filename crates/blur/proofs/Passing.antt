@@ -6,6 +6,7 @@ use Prim.Native.Nat.{ℕ, suc, _+_, _-_, _*_, _≤_, _<_}
 use native.Mathlib.Nat.{le-refl, mul-le-mul}
 use native.Mathlib.Decide.{ℕ-discrete}
 use native.Mathlib.Omega.{arith}
+use lib.Dec.{lit<}
 use lib.IntN.{ℤ, pos, _+ℤ_, _*ℤ_}
 use lib.ListN.{length, take, drop}
 use mir.Syntax.{w64}
@@ -13,8 +14,8 @@ use mir.Val.{SFits}
 use mir.Facts.{toZ-ofZ}
 use Rattle.whole.specs.Size.{Abs≤}
 use Rattle.whole.specs.Lists.{at}
-use Rattle.whole.proofs.Parts.{sfits-make}
 use Rattle.whole.proofs.Readings.{W64}
+use Rattle.whole.proofs.Size.{back64}
 use Rattle.index.proofs.Equality.{keyAt-length, key-part}
 use Rattle.table.specs.Table.{Settings, Table, key, held}
 use Rattle.table.specs.Pour.{setPair}
@@ -25,8 +26,8 @@ use Rattle.blur.proofs.Stored.{own-stored, own-pair, held-small}
 
 -- ---- numbers of a sheet
 -- each is small enough to be what is read back from its bits
-small-back : {z : ℤ} → Abs≤ z most-blurred → W64 z ≡ z
-small-back {z} h = toZ-ofZ (sfits-make w64 z (omega arith) (omega arith))
+pub small-back : {z : ℤ} → Abs≤ z most-blurred → W64 z ≡ z
+small-back h = back64 h (lit< tt)
 
 blendable : {x p m : ℤ} → Abs≤ x most-blurred → Abs≤ p most-blurred → Abs≤ m most-blurred
     → Abs≤ (W64 x) most-blurred × (Abs≤ (W64 p) most-blurred × Abs≤ (W64 m) most-blurred)

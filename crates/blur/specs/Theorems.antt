@@ -49,7 +49,7 @@ abbrev pub PassKeepsBetween : Type 0
 PassKeepsBetween = (stored : List ℤ → Bool) (d k : ℕ) (lo hi : ℤ) (mass value : List ℤ → ℤ)
     → Between lo hi mass value → Between lo hi (pass stored d k mass) (pass stored d k value)
 
--- where no mass is below 0, a stored point's is at least doubled by a pass: it "stays above 0"
+-- where no mass is below 0, a stored point's is at least doubled by a pass
 abbrev pub PassDoubles : Type 0
 PassDoubles = (stored : List ℤ → Bool) (d k : ℕ) (mass : List ℤ → ℤ) → ((y : List ℤ) → pos 0 ≤ℤ mass y)
     → (y : List ℤ) → T (stored y) → (pos 2 *ℤ mass y) ≤ℤ pass stored d k mass y

@@ -4,7 +4,7 @@
 // were taken, the number, and the table; and the filter with its sheets and answers. What this prints is
 // held to the file stdout beside src/. Its numbers are the document's, but for the one point of
 // (1000000,-1000000): the document says only that it is taken, and as a lattice point it has all of W.
-// The filter is also run on a table of no readings, and with as many values as it has no queries for,
+// The filter is also run on a table of no readings, and with one query where there are five values,
 // which is number 2 and leaves everything as it was.
 ghost use mathlib.Core.Path.{_≡_};
 ghost use Prim.Native.Nat.{_<_, _≤_};

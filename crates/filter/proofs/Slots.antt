@@ -6,6 +6,7 @@ use Prim.Native.Nat.{ℕ, suc, _+_, _*_, _-_, _≤_, _<_}
 use native.Mathlib.Decide.{ℕ-discrete}
 use native.Mathlib.Numerals.{add-one}
 use native.Mathlib.Omega.{arith}
+use lib.Dec.{lit<}
 use lib.IntN.{ℤ, pos, _+ℤ_, _*ℤ_, +ℤ-idr, zero-*ℤ, *ℤ-zero}
 use lib.ListN.{getD, take, drop}
 use lib.Signed.{_≤ℤ_, ≤ℤ-refl}
@@ -16,9 +17,10 @@ use borrow.Author.Tests.{eq-eqb, ne-eqb, ltb-false}
 use Rattle.whole.specs.Size.{Abs≤}
 use Rattle.whole.specs.Sum.{over}
 use Rattle.whole.specs.Lists.{at, tab, collect}
-use Rattle.whole.proofs.Parts.{zin, le-in, sfits-make}
+use Rattle.whole.proofs.Parts.{zin, le-in}
 use Rattle.whole.proofs.Linear.{on, difs, ints}
 use Rattle.whole.proofs.Readings.{zlow, zeq, W64}
+use Rattle.whole.proofs.Size.{fits64}
 use Rattle.whole.proofs.Sum.{over-append}
 use Rattle.lattice.specs.Limits.{most-W}
 use Rattle.simplex.specs.Slots.{slot}
@@ -28,6 +30,7 @@ use Rattle.table.proofs.Lists.{collect-parts}
 use Rattle.blur.specs.Blur.{isStored, masses, values}
 use Rattle.blur.specs.Inner.{most-blurred, Readable, PairIs}
 use Rattle.blur.proofs.Stored.{held-small}
+use Rattle.blur.proofs.Passing.{small-back}
 use Rattle.filter.specs.Inner.{ones, weighedOver, WeighedIs, Weighable}
 use Rattle.filter.proofs.Bounds.{weighed-small}
 
@@ -58,7 +61,7 @@ heft-parts l m r w h =
 
 -- ---- in 64 bits
 small-fits : {z : ℤ} → Abs≤ z (most-blurred * most-W) → SFits w64 z
-small-fits {z} h = sfits-make w64 z (omega arith) (omega arith)
+small-fits h = fits64 h (lit< tt)
 
 -- three sums
 pub record Fitting (weight mass value : ℤ) : Type 0 where
@@ -77,10 +80,7 @@ module _ (c : Settings) (t : Table) (R : Readable c t) (small : (j : ℕ) → Ab
     pair-small = rw (X .mass-is, X .value-is) (sheet-small y)
 
     pub pair-back : PairIs c t y stored (W64 mass) (W64 value)
-    pair-back = record { stored-is = X .stored-is; mass-is = back (pair-small .0) ∙ X .mass-is; value-is = back (pair-small .1) ∙ X .value-is }
-      where
-        back : {z : ℤ} → Abs≤ z most-blurred → W64 z ≡ z
-        back {z} h = toZ-ofZ w64 z (small-fits (record { abs = omega arith }))
+    pair-back = record { stored-is = X .stored-is; mass-is = small-back (pair-small .0) ∙ X .mass-is; value-is = small-back (pair-small .1) ∙ X .value-is }
 
   -- the sums over points that together weigh at most 384 fit, and are what is read back
   module _ (ps : List (List ℤ × ℕ)) (light : heft ps ≤ℤ pos most-W) {weight mass value : ℤ} (X : WeighedIs c t ps weight mass value) where

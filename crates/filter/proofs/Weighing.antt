@@ -62,72 +62,71 @@ weights-light c G q =
     let e = over-weighed (c .d) (c .S) q (λ p. pos (p .1)) ∙ all-sum-to-W (c .d) (c .S) (G .S-least) q in
     rw e (le-out (pos (W (c .d) (c .S))) (pos most-W) (omega (arith, W-most c G)))
 
-module _ (c : Settings) (t : Table) (M : Mapped c t) where
-  module _ (q : List ℤ) where
-    ps : List (List ℤ)
-    ps = points (c .d) (c .S) q
+module _ (c : Settings) (t : Table) (M : Mapped c t) (q : List ℤ) where
+  ps : List (List ℤ)
+  ps = points (c .d) (c .S) q
 
-    abbrev weigh : List ℤ → ℕ
-    weigh y = weight (c .d) (c .S) (at q) (at y)
+  abbrev weigh : List ℤ → ℕ
+  weigh y = weight (c .d) (c .S) (at q) (at y)
 
-    -- point p of the list is stored point i
-    abbrev is : ℕ → ℕ → Bool
-    is i p = same (take (c .d) (getD ps p [])) (key c t i)
+  -- point p of the list is stored point i
+  abbrev is : ℕ → ℕ → Bool
+  is i p = same (take (c .d) (getD ps p [])) (key c t i)
 
-    -- the weight of a stored point, as the list has it
-    weight-in : (i : ℕ) → i < t .m → pos (weightOf c t q i) ≡ sum (length ps) (λ p. pick (is i p) (pos (weigh (getD ps p []))))
-    unfolding ps shares
-    weight-in i l =
-        let k = key c t i in
-        let r : Reading = record { place = q; value = pos 0 } in
-        let e = share-given (c .d) (c .S) (M .readable .ranged .S-least) r (whole k) (M .point i l) in
-        sym (ap (λ (z : ℤ × ℤ). z .0) e)
-        ∙ ap (λ (y : List ℤ). over (shares (c .d) (c .S) r) (gives massOf y)) (key-whole (c .d) k (M .size i l))
-        ∙ over-map (share (c .d) (c .S) r) ps (gives massOf k)
-        ∙ sym (sum-list ps [] (λ y. pick (same (take (c .d) y) k) (pos (weigh y))))
+  -- the weight of a stored point, as the list has it
+  weight-in : (i : ℕ) → i < t .m → pos (weightOf c t q i) ≡ sum (length ps) (λ p. pick (is i p) (pos (weigh (getD ps p []))))
+  unfolding ps shares
+  weight-in i l =
+      let k = key c t i in
+      let r : Reading = record { place = q; value = pos 0 } in
+      let e = share-given (c .d) (c .S) (M .readable .ranged .S-least) r (whole k) (M .point i l) in
+      sym (ap (λ (z : ℤ × ℤ). z .0) e)
+      ∙ ap (λ (y : List ℤ). over (shares (c .d) (c .S) r) (gives massOf y)) (key-whole (c .d) k (M .size i l))
+      ∙ over-map (share (c .d) (c .S) r) ps (gives massOf k)
+      ∙ sym (sum-list ps [] (λ y. pick (same (take (c .d) y) k) (pos (weigh y))))
 
-    module _ (f : List ℤ → ℤ) (off : (y : List ℤ) → isStored c t y ≡ false → f y ≡ pos 0) where
-      -- what stored point i has of point p of the list
-      abbrev term : ℕ → ℕ → ℤ
-      term i p = f (key c t i) *ℤ pick (is i p) (pos (weigh (getD ps p [])))
+  module _ (f : List ℤ → ℤ) (off : (y : List ℤ) → isStored c t y ≡ false → f y ≡ pos 0) where
+    -- what stored point i has of point p of the list
+    abbrev term : ℕ → ℕ → ℤ
+    term i p = f (key c t i) *ℤ pick (is i p) (pos (weigh (getD ps p [])))
 
-      by-keys : weighted c t f q ≡ sum (t .m) (λ i. sum (length ps) (term i))
-      unfolding weighted
-      by-keys = sum-cong (t .m) (λ i. pos (weightOf c t q i) *ℤ f (key c t i)) (λ i. sum (length ps) (term i)) (λ i l.
-          *-comm (pos (weightOf c t q i)) (f (key c t i)) ∙ ap (λ (z : ℤ). f (key c t i) *ℤ z) (weight-in i l)
-          ∙ sym (sum-mul (length ps) (f (key c t i)) (λ p. pick (is i p) (pos (weigh (getD ps p []))))))
+    by-keys : weighted c t f q ≡ sum (t .m) (λ i. sum (length ps) (term i))
+    unfolding weighted
+    by-keys = sum-cong (t .m) (λ i. pos (weightOf c t q i) *ℤ f (key c t i)) (λ i. sum (length ps) (term i)) (λ i l.
+        *-comm (pos (weightOf c t q i)) (f (key c t i)) ∙ ap (λ (z : ℤ). f (key c t i) *ℤ z) (weight-in i l)
+        ∙ sym (sum-mul (length ps) (f (key c t i)) (λ p. pick (is i p) (pos (weigh (getD ps p []))))))
 
-      -- of each point of the list one stored point has all, or none is it, and then f is 0
-      at-point : (p : ℕ) → sum (t .m) (λ i. term i p) ≡ pos (weigh (getD ps p [])) *ℤ f (take (c .d) (getD ps p []))
-      at-point p = sum-cong (t .m) (λ i. term i p) (λ i. pick (is i p) (w *ℤ f (key c t i))) (λ i l. picked (is i p) (f (key c t i))) ∙ go (found c t k) refl
-        where
-          w : ℤ
-          w = pos (weigh (getD ps p []))
+    -- of each point of the list one stored point has all, or none is it, and then f is 0
+    at-point : (p : ℕ) → sum (t .m) (λ i. term i p) ≡ pos (weigh (getD ps p [])) *ℤ f (take (c .d) (getD ps p []))
+    at-point p = sum-cong (t .m) (λ i. term i p) (λ i. pick (is i p) (w *ℤ f (key c t i))) (λ i l. picked (is i p) (f (key c t i))) ∙ go (found c t k) refl
+      where
+        w : ℤ
+        w = pos (weigh (getD ps p []))
 
-          k : List ℤ
-          k = take (c .d) (getD ps p [])
+        k : List ℤ
+        k = take (c .d) (getD ps p [])
 
-          picked : (b : Bool) (z : ℤ) → z *ℤ pick b w ≡ pick b (w *ℤ z)
-          picked true z = *-comm z w
-          picked false z = *ℤ-zero z
+        picked : (b : Bool) (z : ℤ) → z *ℤ pick b w ≡ pick b (w *ℤ z)
+        picked true z = *-comm z w
+        picked false z = *ℤ-zero z
 
-          finds : (i : ℕ) → (found c t k ≡ suc i) ↔ ((i < t .m) × (key c t i ≡ k))
-          finds = finds-exactly (c .C) (t .m) (key c t) (entry t) (M .readable .ranged .C-least) (M .readable .indexed) k
+        finds : (i : ℕ) → (found c t k ≡ suc i) ↔ ((i < t .m) × (key c t i ≡ k))
+        finds = finds-exactly (c .C) (t .m) (key c t) (entry t) (M .readable .ranged .C-least) (M .readable .indexed) k
 
-          go : (e : ℕ) → found c t k ≡ e → sum (t .m) (λ i. pick (is i p) (w *ℤ f (key c t i))) ≡ w *ℤ f k
-          go zero e = none (t .m) (λ i. is i p) (λ i. w *ℤ f (key c t i)) (λ i l s. omega (arith, e, finds i .1 (l, sym (same-eq k (key c t i) s))))
-              ∙ sym (ap (λ (z : ℤ). w *ℤ z) (off k (rw e)) ∙ *ℤ-zero w)
-          go (suc j) e =
-              let (l, h) = finds j .0 e in
-              one-hit (t .m) (λ i. is i p) (λ i. w *ℤ f (key c t i)) j l (eq-same k (key c t j) (sym h))
-              (λ i g s. omega (arith, e, finds i .1 (g, sym (same-eq k (key c t i) s))))
-              ∙ ap (λ (y : List ℤ). w *ℤ f y) h
+        go : (e : ℕ) → found c t k ≡ e → sum (t .m) (λ i. pick (is i p) (w *ℤ f (key c t i))) ≡ w *ℤ f k
+        go zero e = none (t .m) (λ i. is i p) (λ i. w *ℤ f (key c t i)) (λ i l s. omega (arith, e, finds i .1 (l, sym (same-eq k (key c t i) s))))
+            ∙ sym (ap (λ (z : ℤ). w *ℤ z) (off k (rw e)) ∙ *ℤ-zero w)
+        go (suc j) e =
+            let (l, h) = finds j .0 e in
+            one-hit (t .m) (λ i. is i p) (λ i. w *ℤ f (key c t i)) j l (eq-same k (key c t j) (sym h))
+            (λ i g s. omega (arith, e, finds i .1 (g, sym (same-eq k (key c t i) s))))
+            ∙ ap (λ (y : List ℤ). w *ℤ f y) h
 
-      over-points : weighted c t f q ≡ over (points (c .d) (c .S) q) (λ y. pos (weigh y) *ℤ f (take (c .d) y))
-      unfolding ps
-      over-points = by-keys ∙ sum-swap (t .m) (length ps) term
-          ∙ sum-cong (length ps) (λ p. sum (t .m) (λ i. term i p)) (λ p. pos (weigh (getD ps p [])) *ℤ f (take (c .d) (getD ps p []))) (λ p l. at-point p)
-          ∙ sum-list ps [] (λ y. pos (weigh y) *ℤ f (take (c .d) y))
+    over-points : weighted c t f q ≡ over (points (c .d) (c .S) q) (λ y. pos (weigh y) *ℤ f (take (c .d) y))
+    unfolding ps
+    over-points = by-keys ∙ sum-swap (t .m) (length ps) term
+        ∙ sum-cong (length ps) (λ p. sum (t .m) (λ i. term i p)) (λ p. pos (weigh (getD ps p [])) *ℤ f (take (c .d) (getD ps p []))) (λ p l. at-point p)
+        ∙ sum-list ps [] (λ y. pos (weigh y) *ℤ f (take (c .d) y))
 
 -- a sum over the stored points is a sum over the points of weight above 0, where what is not stored counts as 0
 pub weighted-over : (c : Settings) (t : Table) → Mapped c t → (f : List ℤ → ℤ) → ((y : List ℤ) → isStored c t y ≡ false → f y ≡ pos 0) → (q : List ℤ)

@@ -28,7 +28,8 @@ queryAt d l j = tab (suc d) (λ i. at l (suc d * j + i))
 abbrev pub queriesIn : ℕ → ℕ → ℕ
 queriesIn d numbers = numbers / suc d
 
--- "two work sheets of 2·C", whole queries, and "one value … and one code … per query": of slices of so many numbers
+-- what number 2 asks of the rest that is lent, in slices of so many numbers: "two work sheets of 2·C", queries that are "whole items", and "one value …
+-- and one code … per query"
 unfoldable pub lentFits : ℕ → ℕ → ℕ → ℕ → ℕ → ℕ → ℕ → Bool
 lentFits d C first second queries values codes =
     eqb first (2 * C) && eqb second (2 * C) && eqb (queries % suc d) 0 && (eqb values (queriesIn d queries) && eqb codes (queriesIn d queries))

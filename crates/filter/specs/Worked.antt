@@ -1,4 +1,4 @@
--- The queries of document 01's worked log, answered, as the definitions compute it.
+-- The queries of document 01's worked log, answered, as the definitions compute them.
 use mathlib.Core.Path.{_≡_}
 use mathlib.Core.List.{List, [], _∷_}
 use lib.IntN.{ℤ, pos, negsuc}

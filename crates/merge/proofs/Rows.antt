@@ -43,8 +43,8 @@ pub stretch-size : (d : ℕ) (keys : List ℤ) (i : ℕ) → Stretch d keys i �
 stretch-size d keys i L = ap length (stretch-is d keys i L) ∙ keyAt-length d keys i
 
 -- a number that was read from a slice of 64-bit numbers is itself
-pub back64 : {z : ℤ} → mag z < 2 ^ 63 → toZ w64 (ofZ w64 z) ≡ z
-back64 h = toZ-ofZ (record { sfits = h })
+pub read-back : {z : ℤ} → mag z < 2 ^ 63 → toZ w64 (ofZ w64 z) ≡ z
+read-back h = toZ-ofZ (record { sfits = h })
 
 -- row i as a function lends it on: from its stretch, and with m and v for its pair
 module _ (c : Settings) (t : Table) (keys sums : List ℤ) (i : ℕ) (m v : ℤ) (L : Stretch (c .d) keys i) (p : m ≡ at sums (2 * i)) (q : v ≡ at sums (2 * i + 1)) where

@@ -6,12 +6,12 @@ use native.Mathlib.Nat.{mul-le-mul}
 use native.Mathlib.Omega.{arith}
 use lib.IntN.{ℤ, pos, negsuc, negℤ, natAbs, _*ℤ_}
 use lib.Signed.{_≤ℤ_}
-use mir.Syntax.{w32}
+use mir.Syntax.{w32, w64}
 use mir.Val.{SFits}
 use mir.ValLaws.{toZ-ofZ}
 use Rattle.whole.specs.Size.{P, N, Abs≤}
 use Rattle.whole.proofs.Parts.{natAbs-is, P-neg, N-neg, le-in, eq-in, sfits-make, zout}
-use Rattle.whole.proofs.Readings.{zed, zle, ole, Rd, Holds, W32}
+use Rattle.whole.proofs.Readings.{zed, zle, ole, Rd, Holds, W32, W64}
 
 pub abs-pair : {z : ℤ} {B : ℕ} → negℤ (pos B) ≤ℤ z → z ≤ℤ pos B → Abs≤ z B
 abs-pair {z} {B} h k = record { abs = go z (omega (arith, ole h (search zed depth 14) (omega arith))) (le-in z (pos B) k) }
@@ -53,6 +53,13 @@ fits32 {z} h k = sfits-make w32 z (omega arith) (omega arith)
 
 pub back32 : {z : ℤ} {B : ℕ} → Abs≤ z B → B < 2147483648 → W32 z ≡ z
 back32 {z} h k = toZ-ofZ w32 z (fits32 h k)
+
+-- and so with 64
+pub fits64 : {z : ℤ} {B : ℕ} → Abs≤ z B → B < 9223372036854775808 → SFits w64 z
+fits64 {z} h k = sfits-make w64 z (omega arith) (omega arith)
+
+pub back64 : {z : ℤ} {B : ℕ} → Abs≤ z B → B < 9223372036854775808 → W64 z ≡ z
+back64 {z} h k = toZ-ofZ w64 z (fits64 h k)
 
 -- ---- the size as the library has it
 pub abs-of : (z : ℤ) (B : ℕ) → natAbs z ≤ B → Abs≤ z B

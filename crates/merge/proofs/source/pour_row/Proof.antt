@@ -1,7 +1,7 @@
 -- The row that is added is the source's: its stretch, its mass and its value sum.
 use borrow.Author.Needs.{needs}
 use Rattle.table.specs.Heads.{settings, stored}
-use Rattle.merge.proofs.Rows.{back64, row-lent, row-added}
+use Rattle.merge.proofs.Rows.{read-back, row-lent, row-added}
 use Rattle.merge.proofs.source.pour_row.Statement.{statement}
 use Rattle.merge.proofs.source.pour_row.Tie as tie
 
@@ -46,16 +46,16 @@ returns c =
     let o = c .before .before .before .before in
     let g = o .before .before .before .before .before in
     let s = g .before .before .before .before .before in
-    let p = back64 (g .before .mass .given) in
-    let q = back64 (g .value .given) in
+    let p = read-back (g .before .mass .given) in
+    let q = read-back (g .value .given) in
     row-added (settings (s .args .head)) (stored (s .args .head) (s .args .points) (s .args .keys .now) (s .args .sums .now) (s .args .index .now)) _ (s .args .source-sums .now) (s .args .row) _ _ (s .pre .1 .stretch) p q (o .add-row .ensures)
 
 add-row-requires : tie.Need-add-row-requires
 add-row-requires c κs =
     let g = c .before .before .before .before in
     let s = g .before .before .before .before .before in
-    let p = back64 (g .before .mass .given) in
-    let q = back64 (g .value .given) in
+    let p = read-back (g .before .mass .given) in
+    let q = read-back (g .value .given) in
     row-lent _ _ _ (s .args .source-sums .now) (s .args .row) _ _ (s .pre .1 .stretch) p q (s .pre .0)
 
 same-length : tie.Need-same-length
