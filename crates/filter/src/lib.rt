@@ -6,7 +6,7 @@ ghost use Rattle.table.specs.Heads.{settings, table};
 ghost use Rattle.filter.specs.Filter.{Lent, Filters};
 ghost use Rattle.filter.specs.Inner.{lentFitsRanged};
 
-mod reply;
+pub mod reply;
 mod weigh;
 
 use crate::reply::reply_all;

@@ -52,3 +52,23 @@ no-point-met = 10
 -- "11: one has, but the blurred mass sum is 0"
 abbrev pub no-mass-met : ℕ
 no-mass-met = 11
+
+-- "12: log: kind byte not listed"
+abbrev pub kind-not-listed : ℕ
+kind-not-listed = 12
+
+-- "13: log: settings not first, or met again"
+abbrev pub settings-misplaced : ℕ
+settings-misplaced = 13
+
+-- "14: log: item of another dimension than the settings"
+abbrev pub other-dimension : ℕ
+other-dimension = 14
+
+-- "15: log: body cut short"
+abbrev pub body-cut : ℕ
+body-cut = 15
+
+-- "16: program: log over 16,384 bytes, or C over 512"
+abbrev pub program-limit : ℕ
+program-limit = 16

@@ -32,3 +32,18 @@ pub const NO_POINT_MET: u8 = 10;
 
 // One has, but the blurred mass sum is 0.
 pub const NO_MASS_MET: u8 = 11;
+
+// Log: kind byte not listed.
+pub const KIND_NOT_LISTED: u8 = 12;
+
+// Log: settings not first, or met again.
+pub const SETTINGS_MISPLACED: u8 = 13;
+
+// Log: item of another dimension than the settings.
+pub const OTHER_DIMENSION: u8 = 14;
+
+// Log: body cut short.
+pub const BODY_CUT: u8 = 15;
+
+// Program: log over 16,384 bytes, or C over 512.
+pub const PROGRAM_LIMIT: u8 = 16;
