@@ -1,0 +1,5 @@
+pub mod Agreeing
+pub mod Lines
+pub mod Decimal
+pub mod Numbers
+pub mod Theorems
