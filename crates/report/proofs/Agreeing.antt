@@ -1,0 +1,33 @@
+-- The definitions agree with "Output, the whole of it": computed.
+use mathlib.Core.Path.{refl}
+use Rattle.whole.specs.Floor.{floor, remainder}
+use Rattle.whole.specs.Rounding.{rounded}
+use Rattle.whole.specs.Sum.{sum, over, all}
+use Rattle.whole.specs.Lists.{tab, collect}
+use Rattle.whole.specs.Word.{word}
+use Rattle.lattice.specs.Refusals.{first}
+use Rattle.lattice.specs.Position.{allNear, sumsToZero}
+use Rattle.lattice.specs.Weight.{best, spread, weight}
+use Rattle.lattice.specs.Points.{corner, lastOf, points}
+use Rattle.index.specs.Keys.{same, keyAt, hash, home}
+use Rattle.index.specs.Search.{walk as sequence, search as sought}
+use Rattle.table.specs.Table.{whole}
+use Rattle.table.specs.Pour.{setPair, append, raise, pour, news}
+use Rattle.table.specs.Reading.{shares, refusal}
+use Rattle.table.specs.Calls.{ranged, fits, fresh, freshRefusal}
+use Rattle.listing.specs.Order.{before, insert, ordered}
+use Rattle.listing.specs.Listing.{order}
+use Rattle.blur.specs.Blur.{step, plusStep, minusStep, pass, passes, massAfter, valueAfter}
+use Rattle.filter.specs.Answer.{weighted, meets, codeBy, valueBy}
+use Rattle.log.specs.Bytes.{wordAt, signed}
+use Rattle.log.specs.Kinds.{kindOf}
+use Rattle.log.specs.Items.{formRefusal, itemAt}
+use Rattle.log.specs.Walk.{walk, walkFrom}
+use Rattle.log.specs.Loading.{loadWalk, load}
+use Rattle.text.specs.Text.{digitsIn, decimal, spaced, line}
+use Rattle.report.specs.Report.{pointLines, perQuery, settingsRefusal, report}
+use Rattle.report.specs.Worked.{ReportCases}
+
+pub report-cases : ReportCases
+unfolding floor remainder rounded sum over all tab collect word first allNear sumsToZero best spread weight corner lastOf points same keyAt hash home sequence sought whole setPair append raise pour news shares refusal ranged fits fresh freshRefusal before insert ordered order step plusStep minusStep pass passes massAfter valueAfter weighted meets codeBy valueBy wordAt signed kindOf formRefusal itemAt walk walkFrom loadWalk load digitsIn decimal spaced line pointLines perQuery settingsRefusal report
+report-cases = record { five-lines = refl; queries-first = refl; cut-short = refl; too-wide = refl }

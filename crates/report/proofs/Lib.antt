@@ -1,0 +1,9 @@
+pub mod Agreeing
+pub mod Numbers
+pub mod Rows
+pub mod Replies
+pub mod Settling
+pub mod Fitting
+pub mod Printing
+pub mod Reporting
+pub mod Theorems

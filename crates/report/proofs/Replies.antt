@@ -1,0 +1,179 @@
+-- The lines of a log's queries, written one after the other: one item, the items in turn, and the answers by the sheet of blurred pairs. Assumes nothing.
+use mathlib.Core.Path.{_≡_, refl, sym, ap, ap₂, subst, fun-ext, _∙_}
+use mathlib.Core.List.{List, [], _∷_, _++_, append-assoc, append-nil}
+use Prim.Native.Nat.{ℕ, suc, _+_, _*_, _-_, _<_, _≤_}
+use native.Mathlib.Numerals.{add-one}
+use native.Mathlib.Omega.{arith}
+use lib.IntN.{ℤ}
+use lib.ListN.{length, take, length-append}
+use lib.Seq.{take-at}
+use types.Run.{miss}
+use Rattle.whole.proofs.Lists.{length-tab}
+use Rattle.table.specs.Table.{Settings, Table}
+use Rattle.blur.specs.Blur.{blurredMass, blurredValue}
+use Rattle.blur.specs.Sheet.{blurredSheet, withSums}
+use Rattle.blur.specs.Inner.{Blurred}
+use Rattle.blur.proofs.Sheets.{sheet-length}
+use Rattle.filter.specs.Answer.{code, answer}
+use Rattle.filter.specs.Inner.{ReplyIs}
+use Rattle.filter.proofs.Answers.{smooth, code-same, value-same}
+use Rattle.log.specs.Bytes.{signedAt}
+use Rattle.log.specs.Items.{itemAt, widthOf}
+use Rattle.log.specs.Walk.{Walk, step, after-settings, walk}
+use Rattle.log.specs.Inner.{Inside, padded}
+use Rattle.log.specs.declared.items.Item.{Item}
+use Rattle.log.specs.declared.items.Item.the-variants.{Start, Reading, Query, End, Refused}
+use Rattle.log.proofs.Forms.{Later, Formed}
+use Rattle.log.proofs.Arms.{ItemIn}
+use Rattle.log.proofs.Walking.{walk-step}
+use Rattle.log.proofs.Taking.{partOf, part-is, of-form}
+use Rattle.text.specs.Text.{Written}
+use Rattle.text.proofs.Lines.{written-nothing, written-then, written-room}
+use Rattle.report.specs.Report.{answerLine, answerLines, perQuery}
+use Rattle.report.specs.Inner.{replyLine, replyText, ReplyRoom, RepliesRoom, AnswersRoom}
+
+-- ---- one item
+module _ {c : Settings} {t : Table} {l : List ℕ} {a : ℕ} {i : Item} {at size : ℕ} (R : ReplyRoom c t l a i at size) {d : ℕ} (e : i ≡ Query d) where
+  pub a-query : Later l a d (d + 1)
+  a-query = subst (Formed l a) e (of-form l a i (R .item-is))
+
+  pub query-inside : Inside l (a + 1) (d + 1)
+  query-inside = let f = a-query in record { few = omega arith; whole = omega arith }
+
+  module _ {numbers : List ℤ} (p : numbers ≡ padded l (a + 1) (d + 1)) where
+    pub query-size : length (partOf (d + 1) numbers) ≡ suc (c .d)
+    query-size = ap length (part-is l a (d + 1) p) ∙ length-tab (d + 1) (λ i. signedAt l (suc a + 4 * i)) ∙ add-one d
+        ∙ ap suc (a-query .d-is ∙ ap (λ (b : Settings). b .d) (sym (R .settings-are)))
+
+    module _ {value : ℤ} {code : ℕ} (r : ReplyIs c t (partOf (d + 1) numbers) value code) where
+      line-is : answerLine value code ≡ replyText c t l a i
+      line-is = ap₂ answerLine (r .value-is) (r .code-is) ∙ ap (replyLine c t) (part-is l a (d + 1) p) ∙ ap (replyText c t l a) (sym e)
+
+      pub query-room : at + length (answerLine value code) ≤ size
+      query-room = rw line-is (R .space)
+
+      pub query-done : {o out : List ℕ} {next : ℕ} → Written o at (answerLine value code) next out → Written o at (replyText c t l a i) next out
+      query-done w = rw line-is at w
+
+-- an item that is no query adds nothing
+abbrev NoQuery : Item → Type 0
+NoQuery = ItemIn (0 ∷ 1 ∷ 3 ∷ 4 ∷ [])
+
+pub no-query : (c : Settings) (t : Table) (l : List ℕ) (a : ℕ) (i : Item) (o : List ℕ) (at : ℕ) → NoQuery i → Written o at (replyText c t l a i) at o
+no-query c t l a (Start d S C) o at h = written-nothing o at
+no-query c t l a (Reading d) o at h = written-nothing o at
+no-query c t l a (Query d) o at h = absurd (miss (0 ∷ 1 ∷ 3 ∷ 4 ∷ []) 2 tt h)
+no-query c t l a End o at h = written-nothing o at
+no-query c t l a (Refused x) o at h = written-nothing o at
+
+-- ---- the items in turn
+-- past the settings an item that takes bytes is a reading or a query, and the log has them
+whole-item : (l : List ℕ) (a : ℕ) (i : Item) → 0 < a → (widthOf i ≡ 0 → ⊥) → Formed l a i → a + widthOf i ≤ length l
+whole-item l a (Start d S C) h n f = absurd (omega arith)
+whole-item l a (Reading d) h n f = f .whole
+whole-item l a (Query d) h n f = f .whole
+whole-item l a End h n f = absurd (n refl)
+whole-item l a (Refused x) h n f = absurd (n refl)
+
+module _ (c : Settings) (t : Table) (l : List ℕ) where
+  step-text : (a : ℕ) (i : Item) (w : Walk) → 0 < a → (widthOf i ≡ 0 → ⊥) → Formed l a i
+      → perQuery (replyLine c t) (step l a i w) ≡ replyText c t l a i ++ perQuery (replyLine c t) w
+  unfolding perQuery
+  step-text a (Start d S C) w h n f = absurd (omega arith)
+  step-text a (Reading d) w h n f = refl
+  step-text a (Query d) w h n f = refl
+  step-text a End w h n f = absurd (n refl)
+  step-text a (Refused x) w h n f = absurd (n refl)
+
+  last-text : (a : ℕ) (i : Item) (w : Walk) → widthOf i ≡ 0 → perQuery (replyLine c t) (step l a i w) ≡ []
+  unfolding perQuery
+  last-text a (Start d S C) w z = refl
+  last-text a (Reading d) w z = absurd (omega arith)
+  last-text a (Query d) w z = absurd (omega arith)
+  last-text a End w z = refl
+  last-text a (Refused x) w z = refl
+
+  -- the lines from an offset on
+  abbrev linesFrom : ℕ → List ℕ
+  linesFrom a = perQuery (replyLine c t) (walk l a)
+
+-- What is written before an item, and the lines of the rest: together they are the lines of all queries.
+pub record Replying (c : Settings) (t : Table) (l o : List ℕ) (a next : ℕ) (out : List ℕ) (offset : ℕ) : Type 0 where
+  pub done : List ℕ
+  pub written : Written o a done next out
+  pub whole : done ++ linesFrom c t l offset ≡ linesFrom c t l after-settings
+  pub later : 0 < offset
+
+pub replies-start : (c : Settings) (t : Table) (l o : List ℕ) (a : ℕ) → Replying c t l o a a o after-settings
+replies-start c t l o a = record { done = []; written = written-nothing o a; whole = refl; later = omega arith }
+
+module _ {c : Settings} {t : Table} {l o : List ℕ} {a next : ℕ} {out : List ℕ} {offset : ℕ} (R : RepliesRoom c t l a (length o))
+    (P : Replying c t l o a next out offset) {i : Item} (e : i ≡ itemAt l offset) where
+  -- an item is left
+  module _ (n : widthOf i ≡ 0 → ⊥) where
+    pub item-whole : offset + widthOf i ≤ length l
+    item-whole = whole-item l offset i (P .later) n (of-form l offset i e)
+
+    ahead : linesFrom c t l offset ≡ replyText c t l offset i ++ linesFrom c t l (offset + widthOf i)
+    ahead = walk-lines ∙ step-text c t l offset i (walk l (offset + widthOf i)) (P .later) n (of-form l offset i e)
+      where
+        walk-lines : linesFrom c t l offset ≡ perQuery (replyLine c t) (step l offset i (walk l (offset + widthOf i)))
+        walk-lines = ap (perQuery (replyLine c t)) (walk-step l offset ∙ ap (λ (i : Item). step l offset i (walk l (offset + widthOf i))) (sym e))
+
+    all-lines : (P .done ++ replyText c t l offset i) ++ linesFrom c t l (offset + widthOf i) ≡ linesFrom c t l after-settings
+    all-lines = append-assoc (P .done) (replyText c t l offset i) (linesFrom c t l (offset + widthOf i)) ∙ ap (λ (x : List ℕ). P .done ++ x) (sym ahead) ∙ P .whole
+
+    space-left : a + length (P .done) + length (replyText c t l offset i) ≤ length o
+    space-left = let q = ap length all-lines in omega (arith, rw (length-append, length-append) at q, R .space)
+
+    pub reply-room : ReplyRoom c t l offset i next (length out)
+    reply-room = record {
+      smooth = R .smooth;
+      settings-are = R .settings-are;
+      item-is = e;
+      space = written-room (length (replyText c t l offset i)) (P .written) space-left;
+    }
+
+    pub replies-more : {next′ : ℕ} {out′ : List ℕ} → Written out next (replyText c t l offset i) next′ out′ → Replying c t l o a next′ out′ (offset + widthOf i)
+    replies-more w = record {
+      done = P .done ++ replyText c t l offset i;
+      written = written-then (P .written) w space-left;
+      whole = all-lines;
+      later = omega (arith, P .later);
+    }
+
+  -- none is
+  pub replies-end : widthOf i ≡ 0 → Written o a (linesFrom c t l after-settings) next out
+  replies-end z = rw (← P .whole, walk-step l offset, ← e, last-text c t l offset i (walk l (offset + widthOf i)) z, append-nil) (P .written)
+
+-- ---- the answers, by the sheet that the blur leaves
+module _ {c : Settings} {t : Table} {l : List ℕ} {at size : ℕ} (R : AnswersRoom c t l at size) {first second : List ℤ} (B : Blurred c t first second) where
+  blurred-size : length first ≡ 2 * c .C
+  blurred-size = ap length (B .first-is) ∙ sheet-length c t (blurredMass c t) (blurredValue c t) (R .printable .fine .sound .indexed .sparse .room)
+
+  pub answers-part : (rest : List ℤ) → 2 * c .C ≤ length (first ++ rest)
+  answers-part rest = omega (arith, length-append first rest, blurred-size)
+
+  -- as it is lent, from the array that it was made in
+  sheet-is : (rest : List ℤ) → take (2 * c .C - 0) (first ++ rest) ≡ blurredSheet c t
+  sheet-is rest =
+      let q : 2 * c .C - 0 ≡ 2 * c .C = omega arith in
+      ap (λ (n : ℕ). take n (first ++ rest)) q ∙ take-at first rest (2 * c .C) blurred-size ∙ B .first-is
+
+  line-same : replyLine c (withSums t (blurredSheet c t)) ≡ (λ q. answerLine (answer c t q) (code c t q))
+  line-same = fun-ext (λ q. ap₂ answerLine (value-same c t (R .printable .fine) q) (code-same c t (R .printable .fine) q))
+
+  lines-same : (rest : List ℤ) (w : Walk) → perQuery (replyLine c (withSums t (take (2 * c .C - 0) (first ++ rest)))) w ≡ answerLines c t w
+  lines-same rest w = ap (λ (s : List ℤ). perQuery (replyLine c (withSums t s)) w) (sheet-is rest) ∙ ap (λ (f : List ℤ → List ℕ). perQuery f w) line-same
+
+  pub answers-room : (rest : List ℤ) → RepliesRoom c (withSums t (take (2 * c .C - 0) (first ++ rest))) l at size
+  answers-room rest = record {
+    smooth = rw (sheet-is rest) (smooth c t (R .printable .fine));
+    settings-are = R .settings-are;
+    space = rw (lines-same rest (walk l after-settings)) (R .space);
+  }
+
+  pub answers-done : (rest : List ℤ) {o out : List ℕ} {next : ℕ}
+      → Written o at (perQuery (replyLine c (withSums t (take (2 * c .C - 0) (first ++ rest)))) (walk l after-settings)) next out
+      → Written o at (answerLines c t (walk l after-settings)) next out
+  answers-done rest w = rw (lines-same rest (walk l after-settings)) at w

@@ -1,0 +1,4 @@
+pub mod Report
+pub mod Theorems
+pub mod Inner
+pub mod Worked

@@ -1,0 +1,106 @@
+// The lines of a log's queries, in their order, answered over all of its readings.
+ghost use lib.ListN.{length};
+ghost use Rattle.table.specs.Heads.{settings, table};
+ghost use Rattle.log.specs.Walk.{after-settings, walk};
+ghost use Rattle.text.specs.Text.{Written};
+ghost use Rattle.report.specs.Report.{answerLines, perQuery};
+ghost use Rattle.report.specs.Inner.{replyLine, replyText, ReplyRoom, RepliesRoom, AnswersRoom};
+use crate::MOST_POINTS;
+use crate::lines::put_answer;
+use blur::blur;
+use filter::reply::reply_at;
+use log::AFTER_SETTINGS;
+use log::bytes::numbers_at;
+use log::items::Item;
+use log::items::item_at;
+use log::items::width_of;
+use table::Head;
+
+// One item: the line of a query, and nothing for a reading.
+fn put_reply(
+    out: &mut [u8],
+    at: usize,
+    head: Head,
+    keys: &[i32],
+    index: &[u16],
+    sheet: &[i64],
+    log: &[u8],
+    offset: usize,
+    item: Item,
+) -> usize
+    requires { ⌜ ReplyRoom (settings head) (table head (now keys) (now sheet) (now index)) (now log) offset item at (length (now out)) ⌝ }
+    ensures { λ r. ⌜
+        (let t = table head (now (keys .entry)) (now (sheet .entry)) (now (index .entry)) in
+        Written (now (out .entry)) at (replyText (settings head) t (now (log .entry)) offset item) r (now (out .exit)))
+        ⌝ }
+{
+    match item {
+        Item::Query(d) => {
+            let count = d + 1;
+            let numbers = numbers_at(log, offset + 1, count);
+            let reply = reply_at(head, keys, index, sheet, &numbers[0..count]);
+            put_answer(out, at, reply.value, reply.code)
+        }
+        _ => at,
+    }
+}
+
+fn put_replies(
+    out: &mut [u8],
+    at: usize,
+    head: Head,
+    keys: &[i32],
+    index: &[u16],
+    sheet: &[i64],
+    log: &[u8],
+) -> usize
+    requires { ⌜ RepliesRoom (settings head) (table head (now keys) (now sheet) (now index)) (now log) at (length (now out)) ⌝ }
+    ensures { λ r. ⌜
+        (let c = settings head in
+        let t = table head (now (keys .entry)) (now (sheet .entry)) (now (index .entry)) in
+        Written (now (out .entry)) at (perQuery (replyLine c t) (walk (now (log .entry)) after-settings)) r (now (out .exit)))
+        ⌝ }
+{
+    let mut next = at;
+    let mut offset = AFTER_SETTINGS;
+    loop {
+        let item = item_at(log, offset);
+        let width = width_of(item);
+        if width == 0 {
+            break;
+        }
+        next = put_reply(out, next, head, keys, index, sheet, log, offset, item);
+        offset = offset + width;
+    }
+    next
+}
+
+// The table of the whole log is blurred once, and every query answered by it.
+pub fn put_answers(
+    out: &mut [u8],
+    at: usize,
+    head: Head,
+    keys: &[i32],
+    sums: &[i64],
+    index: &[u16],
+    log: &[u8],
+) -> usize
+    requires { ⌜ AnswersRoom (settings head) (table head (now keys) (now sums) (now index)) (now log) at (length (now out)) ⌝ }
+    ensures { λ r. ⌜
+        (let t = table head (now (keys .entry)) (now (sums .entry)) (now (index .entry)) in
+        Written (now (out .entry)) at (answerLines (settings head) t (walk (now (log .entry)) after-settings)) r (now (out .exit)))
+        ⌝ }
+{
+    let mut first = [0i64; 2 * MOST_POINTS];
+    let mut second = [0i64; 2 * MOST_POINTS];
+    let numbers = 2 * head.capacity;
+    blur(
+        head,
+        keys,
+        sums,
+        index,
+        &mut first[0..numbers],
+        &mut second[0..numbers],
+    );
+    put_replies(out, at, head, keys, index, &first[0..numbers], log)
+}
