@@ -1,11 +1,11 @@
-# make demo: proves every crate, then runs what there is to run so far (README.md says what that is).
+# make demo: proves every crate, then runs dyemap on the worked log of document 01.
 # make test: the gate.
 .PHONY: demo test
 
 demo:
 	rt check
 	@echo
-	target/bin/cases
+	target/bin/dyemap < crates/dyemap/stdin
 
 test:
 	.ci/run

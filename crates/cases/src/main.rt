@@ -5,16 +5,19 @@
 // held to the file stdout beside src/. Its numbers are the document's, but for the one point of
 // (1000000,-1000000): the document says only that it is taken, and as a lattice point it has all of W.
 // The filter is also run on a table of no readings, and with one query where there are five values,
-// which is number 2 and leaves everything as it was.
+// which is number 2 and leaves everything as it was. Last come logs, each with the report that dyemap
+// prints for it.
 ghost use mathlib.Core.Path.{_≡_};
 ghost use Prim.Native.Nat.{_<_, _≤_};
 ghost use lib.ListN.{length};
 
 mod filtered;
+mod logs;
 mod print;
 mod tables;
 
 use crate::filtered::show_filtered;
+use crate::logs::show_logs;
 use crate::print::print_number;
 use crate::print::print_numbers;
 use crate::tables::show_entered;
@@ -140,4 +143,5 @@ fn main() {
     );
     show_filtered(&[], &[3, -3, 4, -4, 100, -100, 1000001, 0, 5, -4], 2);
     show_filtered(&[3, -3, 10], &[3, -3], 2);
+    show_logs();
 }
