@@ -22,7 +22,7 @@ use Rattle.log.specs.Items.{itemAt, widthOf}
 use Rattle.log.specs.Walk.{Walk, step, after-settings, walk}
 use Rattle.log.specs.Inner.{Inside, padded}
 use Rattle.log.specs.declared.items.Item.{Item}
-use Rattle.log.specs.declared.items.Item.the-variants.{Start, Reading, Query, End, Refused}
+use Rattle.log.specs.declared.items.Item.the-variants.{Reading, Query, End, Refused}
 use Rattle.log.proofs.Forms.{Later, Formed}
 use Rattle.log.proofs.Arms.{ItemIn}
 use Rattle.log.proofs.Walking.{walk-step}
@@ -60,7 +60,7 @@ abbrev NoQuery : Item → Type 0
 NoQuery = ItemIn (0 ∷ 1 ∷ 3 ∷ 4 ∷ [])
 
 pub no-query : (c : Settings) (t : Table) (l : List ℕ) (a : ℕ) (i : Item) (o : List ℕ) (at : ℕ) → NoQuery i → Written o at (replyText c t l a i) at o
-no-query c t l a (Start d S C) o at h = written-nothing o at
+no-query c t l a (Item.Settings d S C) o at h = written-nothing o at
 no-query c t l a (Reading d) o at h = written-nothing o at
 no-query c t l a (Query d) o at h = absurd (miss (0 ∷ 1 ∷ 3 ∷ 4 ∷ []) 2 tt h)
 no-query c t l a End o at h = written-nothing o at
@@ -69,7 +69,7 @@ no-query c t l a (Refused x) o at h = written-nothing o at
 -- ---- the items in turn
 -- past the settings an item that takes bytes is a reading or a query, and the log has them
 whole-item : (l : List ℕ) (a : ℕ) (i : Item) → 0 < a → (widthOf i ≡ 0 → ⊥) → Formed l a i → a + widthOf i ≤ length l
-whole-item l a (Start d S C) h n f = absurd (omega arith)
+whole-item l a (Item.Settings d S C) h n f = absurd (omega arith)
 whole-item l a (Reading d) h n f = f .whole
 whole-item l a (Query d) h n f = f .whole
 whole-item l a End h n f = absurd (n refl)
@@ -79,7 +79,7 @@ module _ (c : Settings) (t : Table) (l : List ℕ) where
   step-text : (a : ℕ) (i : Item) (w : Walk) → 0 < a → (widthOf i ≡ 0 → ⊥) → Formed l a i
       → perQuery (replyLine c t) (step l a i w) ≡ replyText c t l a i ++ perQuery (replyLine c t) w
   unfolding perQuery
-  step-text a (Start d S C) w h n f = absurd (omega arith)
+  step-text a (Item.Settings d S C) w h n f = absurd (omega arith)
   step-text a (Reading d) w h n f = refl
   step-text a (Query d) w h n f = refl
   step-text a End w h n f = absurd (n refl)
@@ -87,7 +87,7 @@ module _ (c : Settings) (t : Table) (l : List ℕ) where
 
   last-text : (a : ℕ) (i : Item) (w : Walk) → widthOf i ≡ 0 → perQuery (replyLine c t) (step l a i w) ≡ []
   unfolding perQuery
-  last-text a (Start d S C) w z = refl
+  last-text a (Item.Settings d S C) w z = refl
   last-text a (Reading d) w z = absurd (omega arith)
   last-text a (Query d) w z = absurd (omega arith)
   last-text a End w z = refl

@@ -15,7 +15,6 @@ use Rattle.table.proofs.Soundness.{to-ranged}
 use Rattle.log.specs.Items.{settingsOf, itemAt, numberOf}
 use Rattle.log.specs.Loading.{orElse}
 use Rattle.log.specs.declared.items.Item.{Item}
-use Rattle.log.specs.declared.items.Item.the-variants.{Start}
 use Rattle.log.proofs.Forms.{AtStart, Formed}
 use Rattle.log.proofs.Leaving.{either-zero}
 use Rattle.log.proofs.Starting.{NoStart, no-start, or-first}
@@ -62,7 +61,7 @@ module _ (l : List ℕ) (i : Item) (e : i ≡ itemAt l 0) where
       opens-refused l x o (refusal-is ∙ or-first (numberOf i) (own (settingsOf l)) z ∙ sym n) (λ y. z (sym n ∙ y)) p
 
   -- ---- the settings are there
-  module _ {d S C : ℕ} (s : i ≡ Start d S C) where
+  module _ {d S C : ℕ} (s : i ≡ Item.Settings d S C) where
     abbrev c : Settings
     c = record { d = d; S = S; C = C }
 

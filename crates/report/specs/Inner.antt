@@ -17,7 +17,7 @@ use Rattle.log.specs.Items.{settingsOf, itemAt, valuesOf}
 use Rattle.log.specs.Walk.{after-settings, walk}
 use Rattle.log.specs.Loading.{load}
 use Rattle.log.specs.declared.items.Item.{Item}
-use Rattle.log.specs.declared.items.Item.the-variants.{Start, Reading, Query, End, Refused}
+use Rattle.log.specs.declared.items.Item.the-variants.{Reading, Query, End, Refused}
 use Rattle.report.specs.declared.Opening.{Opening}
 use Rattle.report.specs.Report.{most-bytes, most-points, room, headLine, pointNumbers, pointLine, pointLines, answerLine, answerLines, perQuery, tableText, settingsRefusal, refusedLine, loadedText}
 
@@ -78,7 +78,7 @@ replyLine c t q = answerLine (valueBy c t (masses c t) (values c t) q) (codeBy c
 
 -- what an item adds to the text: the line of a query
 abbrev pub replyText : Settings → Table → List ℕ → ℕ → Item → List ℕ
-replyText c t l a (Start d S C) = []
+replyText c t l a (Item.Settings d S C) = []
 replyText c t l a (Reading d) = []
 replyText c t l a (Query d) = replyLine c t (valuesOf l a (Query d))
 replyText c t l a End = []

@@ -57,7 +57,7 @@ fn opening_of(log: &[u8]) -> Opening
     ensures { λ r. ⌜ Opens (now (log .entry)) r ⌝ }
 {
     let item = item_at(log, 0);
-    let Item::Start {
+    let Item::Settings {
         d,
         fineness,
         capacity,
