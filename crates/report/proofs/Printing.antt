@@ -13,7 +13,6 @@ use Rattle.table.specs.Table.{Settings, Table}
 use Rattle.table.specs.Calls.{lent, fresh}
 use Rattle.table.specs.Heads.{settings, table}
 use Rattle.table.specs.Inner.{Fine}
-use Rattle.table.proofs.Keeping.{fresh-fine}
 use Rattle.text.specs.Text.{Written}
 use Rattle.text.proofs.Lines.{written-then, written-room}
 use Rattle.log.specs.Items.{settingsOf}
@@ -148,7 +147,6 @@ module _ (l : List ℕ) (d C size : ℕ) (S : Settled l d C size) where
       let T = S .taken in
       subst (λ (t : Table). LentFor l t size) (sym memory-fresh) (record {
         taken = T;
-        shape = fresh-fine c (T .ranged) .shape;
         space = omega (arith, loaded-fits l (fresh c) (T .short) (T .few), S .space);
       })
 

@@ -49,7 +49,7 @@ module _ (l : List ℕ) (k : length l ≤ most-bytes) {o : Opening} (O : Opens l
 
   pub settled : {size : ℕ} → room ≤ size → o .number ≡ 0 → Settled l (o .d) (o .capacity) size
   settled h z = record {
-    taken = record { short = k; accepted = sym (O .number-is) ∙ z; ranged = O .ranged z; few = O .few z };
+    taken = record { short = k; ranged = O .ranged z; few = O .few z };
     d-is = O .d-is z;
     capacity-is = O .capacity-is z;
     space = h;

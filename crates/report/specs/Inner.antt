@@ -8,7 +8,7 @@ use Rattle.lattice.specs.Limits.{most-d, most-readings}
 use Rattle.table.specs.declared.Head.{Head}
 use Rattle.table.specs.Table.{Settings, Table}
 use Rattle.table.specs.Heads.{settings, table}
-use Rattle.table.specs.Inner.{Ranged, Shape, Fine}
+use Rattle.table.specs.Inner.{Ranged, Fine}
 use Rattle.blur.specs.Blur.{masses, values}
 use Rattle.filter.specs.Answer.{codeBy, valueBy}
 use Rattle.filter.specs.Inner.{Smooth}
@@ -120,14 +120,12 @@ pub record Opens (l : List ℕ) (o : Opening) : Type 0 where
 -- a log that the program takes, and settings that it has memory for
 pub record Taken (l : List ℕ) : Type 0 where
   pub short : length l ≤ most-bytes
-  pub accepted : settingsRefusal l ≡ 0
   pub ranged : Ranged (settingsOf l)
   pub few : settingsOf l .C ≤ most-points
 
--- slices of their lengths, and room for what is printed
+-- such a log, and room for what is printed where it is loaded into the memory of t
 pub record LentFor (l : List ℕ) (t : Table) (size : ℕ) : Type 0 where
   pub taken : Taken l
-  pub shape : Shape (settingsOf l) t
   pub space : length (loadedText l (load l t .number) (load l t)) ≤ size
 
 -- these settings, and a buffer that suffices
