@@ -1,5 +1,5 @@
--- A key moved by a step: what a step has at a place, and an array of five places filled from the front with the moved coordinates.
-use mathlib.Core.Path.{_≡_, refl, ap₂, _∙_}
+-- A key moved by a step: what a step has at a place, and places filled from the front with the moved coordinates.
+use mathlib.Core.Path.{_≡_, refl, sym, ap, ap₂, _∙_}
 use mathlib.Core.Bool.{Bool, true, false, cond}
 use mathlib.Core.List.{List}
 use Prim.Native.Nat.{ℕ, _+_, _≤_, _<_}
@@ -7,8 +7,7 @@ use native.Mathlib.Decide.{ℕ-discrete}
 use native.Mathlib.Omega.{arith}
 use lib.Dec.{lit<}
 use lib.IntN.{ℤ, pos, negℤ, _+ℤ_, _-ℤ_}
-use lib.ListN.{length, set, take, replicate, length-set}
-use lib.Seq.{length-take-le, getD-take}
+use lib.ListN.{length, set, length-set}
 use mir.Syntax.{w32}
 use mir.Val.{SFits}
 use mir.Facts.{toZ-ofZ}
@@ -17,7 +16,7 @@ use Rattle.whole.specs.Size.{Abs≤}
 use Rattle.whole.specs.Lists.{at, tab}
 use Rattle.whole.proofs.Readings.{zlin, W32}
 use Rattle.whole.proofs.Size.{zabs, back32}
-use Rattle.whole.proofs.Lists.{tab-is, place-more}
+use Rattle.whole.proofs.Lists.{length-tab, tab-is, place-more}
 use Rattle.lattice.specs.Limits.{most-d, farthest-point}
 use Rattle.blur.specs.Blur.{step, plusStep, minusStep}
 use Rattle.blur.specs.Inner.{Movable, neighbourOf}
@@ -48,6 +47,9 @@ unfolding plusStep minusStep
 neighbour-tab true d k y = refl
 neighbour-tab false d k y = refl
 
+pub neighbour-length : (plus : Bool) (d k : ℕ) (y : List ℤ) → length (neighbourOf plus d k y) ≡ d
+neighbour-length plus d k y = ap length (sym (neighbour-tab plus d k y)) ∙ length-tab d (movedAt plus d k y)
+
 -- one coordinate: the numbers that the machine has are small, so they are the key's and the step's own
 module _ (y : List ℤ) (Y : Movable y) (k i : ℕ) (h : i < length y) {s : ℤ} (e : s ≡ step (length y) k i) where
   coordinate-back : W32 (at y i) ≡ at y i
@@ -62,16 +64,16 @@ module _ (y : List ℤ) (Y : Movable y) (k i : ℕ) (h : i < length y) {s : ℤ}
   pub moved-is : (plus : Bool) {r : ℤ} → SFits w32 r → r ≡ cond plus (W32 (at y i) +ℤ W32 s) (W32 (at y i) -ℤ W32 s) → W32 r ≡ movedAt plus (length y) k y i
   moved-is plus f m = toZ-ofZ f ∙ m ∙ ap₂ (λ (x b : ℤ). cond plus (x +ℤ b) (x -ℤ b)) coordinate-back step-back
 
--- five places of which the first n have f
-pub record Filled (n : ℕ) (f : ℕ → ℤ) (l : List ℤ) : Type 0 where
-  pub places : length l ≡ 5
+-- as many places as p, of which the first n have f
+pub record Filled (p n : ℕ) (f : ℕ → ℤ) (l : List ℤ) : Type 0 where
+  pub places : length l ≡ p
   pub each : (i : ℕ) → i < n → at l i ≡ f i
 
-pub filled-none : (f : ℕ → ℤ) → Filled 0 f (replicate 5 (pos 0))
-filled-none f = record { places = refl; each = λ i h. absurd (omega arith) }
+pub filled-none : {l : List ℤ} (p : ℕ) (f : ℕ → ℤ) → length l ≡ p → Filled p 0 f l
+filled-none p f h = record { places = h; each = λ i q. absurd (omega arith) }
 
-pub filled-more : {l : List ℤ} {v : ℤ} (n : ℕ) (f : ℕ → ℤ) → n < 5 → Filled n f l → v ≡ f n → Filled (n + 1) f (set l n v)
-filled-more {l} {v} n f h F e = record { places = length-set l n v ∙ F .places; each = place-more f l (pos 0) n v (omega (arith, F .places)) e (F .each) }
+pub filled-more : {l : List ℤ} {v : ℤ} (p n : ℕ) (f : ℕ → ℤ) → n < p → Filled p n f l → v ≡ f n → Filled p (n + 1) f (set l n v)
+filled-more {l} {v} p n f h F e = record { places = length-set l n v ∙ F .places; each = place-more f l (pos 0) n v (omega (arith, F .places)) e (F .each) }
 
-pub filled-take : {l : List ℤ} (n : ℕ) (f : ℕ → ℤ) → n ≤ 5 → Filled n f l → take n l ≡ tab n f
-filled-take {l} n f h F = tab-is n f (take n l) (pos 0) (length-take-le n l (omega (arith, F .places))) (λ i q. getD-take n l i (pos 0) q ∙ F .each i q)
+pub filled-all : {l : List ℤ} (p : ℕ) (f : ℕ → ℤ) → Filled p p f l → l ≡ tab p f
+filled-all {l} p f F = tab-is p f l (pos 0) (F .places) (F .each)

@@ -1,7 +1,7 @@
 -- One pass: the key of a stored point as a part of the keys, the point's new pair from its own and its neighbours', and the sheet filled with the new pairs.
 use mathlib.Core.Path.{_≡_, refl, sym, ap, ap₂, subst, _∙_}
 use mathlib.Core.Bool.{Bool, true, false}
-use mathlib.Core.List.{List}
+use mathlib.Core.List.{List, _++_}
 use Prim.Native.Nat.{ℕ, suc, _+_, _-_, _*_, _≤_, _<_}
 use native.Mathlib.Nat.{le-refl, mul-le-mul}
 use native.Mathlib.Decide.{ℕ-discrete}
@@ -9,6 +9,7 @@ use native.Mathlib.Omega.{arith}
 use lib.Dec.{lit<}
 use lib.IntN.{ℤ, pos, _+ℤ_, _*ℤ_}
 use lib.ListN.{length, take, drop}
+use lib.Seq.{length-take-le, take-at}
 use mir.Syntax.{w64}
 use mir.Val.{SFits}
 use mir.Facts.{toZ-ofZ}
@@ -22,6 +23,7 @@ use Rattle.table.specs.Pour.{setPair}
 use Rattle.table.proofs.Store.{pair-length, pair-mass, pair-value, pair-else}
 use Rattle.blur.specs.Blur.{plusStep, minusStep, pass, isStored, masses, values}
 use Rattle.blur.specs.Inner.{most-blurred, Movable, neighbourOf, PairIs, Passable, NewPair, Passed}
+use Rattle.blur.proofs.Moving.{neighbour-length}
 use Rattle.blur.proofs.Stored.{own-stored, own-pair, held-small}
 
 -- ---- numbers of a sheet
@@ -71,16 +73,26 @@ module _ (c : Settings) (t : Table) (Q : Passable c t) (i : ℕ) (l : i < t .m) 
   pub part-movable : Movable part
   part-movable = rw part-is (Q .movable i l)
 
-  -- the pair of the array's first d numbers is the neighbour's
-  pub neighbour-is : (ns : List ℤ) (plus : Bool) (k : ℕ) {stored : Bool} {mass value : ℤ} → take (length part) ns ≡ neighbourOf plus (length part) k part
-      → PairIs c t (take (c .d - 0) ns) stored mass value → PairIs c t (neighbourOf plus (c .d) k (key c t i)) stored mass value
-  neighbour-is ns plus k {stored} {mass} {value} e P = subst (λ (y : List ℤ). PairIs c t y stored mass value) here P
-    where
-      size : length part ≡ c .d
-      size = ap length part-is ∙ keyAt-length (c .d) (t .keys) i
+  part-size : length part ≡ c .d
+  part-size = ap length part-is ∙ keyAt-length (c .d) (t .keys) i
 
-      here : take (c .d - 0) ns ≡ neighbourOf plus (c .d) k (key c t i)
-      here = let n : c .d - 0 ≡ length part = omega (arith, size) in ap (λ (n : ℕ). take n ns) n ∙ e ∙ ap₂ (λ (n : ℕ) (y : List ℤ). neighbourOf plus n k y) size part-is
+  -- the neighbour has as many coordinates as the part lent for it
+  pub neighbour-fits : (l : List ℤ) → c .d ≤ length l → length (take (c .d - 0) l) ≡ length part
+  neighbour-fits l h = length-take-le (c .d - 0) l (omega (arith, h)) ∙ omega (arith, part-size)
+
+  -- the neighbour that was put in front of what the array has left, as it is lent on: it has d coordinates, and its pair is the
+  -- neighbour's
+  module _ (plus : Bool) (k : ℕ) (ns rest : List ℤ) (e : ns ≡ neighbourOf plus (length part) k part) where
+    in-front : take (c .d - 0) (ns ++ rest) ≡ neighbourOf plus (c .d) k (key c t i)
+    in-front =
+        let n : length ns ≡ length part = ap length e ∙ neighbour-length plus (length part) k part in
+        take-at ns rest (c .d - 0) (omega (arith, n, part-size)) ∙ e ∙ ap₂ (λ (n : ℕ) (y : List ℤ). neighbourOf plus n k y) part-size part-is
+
+    pub neighbour-size : length (take (c .d - 0) (ns ++ rest)) ≡ c .d
+    neighbour-size = ap length in-front ∙ neighbour-length plus (c .d) k (key c t i)
+
+    pub neighbour-is : {stored : Bool} {mass value : ℤ} → PairIs c t (take (c .d - 0) (ns ++ rest)) stored mass value → PairIs c t (neighbourOf plus (c .d) k (key c t i)) stored mass value
+    neighbour-is {stored} {mass} {value} P = subst (λ (y : List ℤ). PairIs c t y stored mass value) in-front P
 
   -- ---- its pair
   own : held c t (key c t i) ≡ (at (t .sums) (2 * i), at (t .sums) (2 * i + 1))

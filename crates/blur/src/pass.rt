@@ -9,7 +9,7 @@ ghost use Rattle.table.specs.Heads.{settings, table};
 ghost use Rattle.blur.specs.Inner.{most-blurred, neighbourOf, PairIs, Passable, NewPair, Passed};
 use crate::pair::Pair;
 use crate::pair::pair_of;
-use crate::step::neighbour;
+use crate::step::put_neighbour;
 use table::Head;
 
 // A new number: the old one twice, and those of the two neighbours.
@@ -42,8 +42,9 @@ fn neighbour_pair(
     let d = head.d;
     let start = d * point;
     let end = start + d;
-    let key = neighbour(&keys[start..end], k, plus);
-    pair_of(head, keys, index, sheet, &key[0..d])
+    let mut neighbour = [0i32; 5];
+    put_neighbour(&keys[start..end], k, plus, &mut neighbour[0..d]);
+    pair_of(head, keys, index, sheet, &neighbour[0..d])
 }
 
 // The new pair of a stored point in pass k.

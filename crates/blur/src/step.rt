@@ -3,7 +3,7 @@ ghost use mathlib.Core.Path.{_≡_};
 ghost use mathlib.Core.Bool.{cond};
 ghost use Prim.Native.Nat.{_≤_};
 ghost use lib.IntN.{_+ℤ_, _-ℤ_};
-ghost use lib.ListN.{length, take};
+ghost use lib.ListN.{length};
 ghost use Rattle.whole.specs.Size.{Abs≤};
 ghost use Rattle.lattice.specs.Limits.{most-d, farthest-point};
 ghost use Rattle.blur.specs.Blur.{step};
@@ -32,16 +32,16 @@ fn moved(x: i32, by: i32, plus: bool) -> i32
     x - by
 }
 
-// The key of point plus step, or of point minus step, in the first d places.
-pub fn neighbour(key: &[i32], k: usize, plus: bool) -> [i32; 5]
+// The key of point plus step, or of point minus step. It is written where the search reads it, since
+// an array handed back would be copied.
+pub fn put_neighbour(key: &[i32], k: usize, plus: bool, neighbour: &mut [i32])
     requires { ⌜ Movable (now key) ⌝ }
-    ensures { λ r. ⌜ take (length (now (key .entry))) r ≡ neighbourOf plus (length (now (key .entry))) k (now (key .entry)) ⌝ }
+    requires { ⌜ length (now neighbour) ≡ length (now key) ⌝ }
+    ensures { λ r. ⌜ now (neighbour .exit) ≡ neighbourOf plus (length (now (key .entry))) k (now (key .entry)) ⌝ }
 {
     let d = key.len();
-    let mut coords = [0i32; 5];
     for i in 0..d {
         let x = key[i];
-        coords[i] = moved(x, step_at(d, k, i), plus);
+        neighbour[i] = moved(x, step_at(d, k, i), plus);
     }
-    coords
 }

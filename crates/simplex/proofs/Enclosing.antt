@@ -15,10 +15,10 @@ use Rattle.whole.proofs.Lists.{length-tab}
 use Rattle.lattice.specs.Weight.{W}
 use Rattle.lattice.specs.Points.{spanned, lastOf}
 use Rattle.simplex.specs.Slots.{Placed, slotWeights, slotCoords}
-use Rattle.simplex.specs.Inner.{Total, Parts, coordinate, Near, ResidualsOf, CornerIs, Room}
+use Rattle.simplex.specs.Inner.{Total, Parts, coordinate, Near, ResidualOf, CornerIs, Room}
 use Rattle.simplex.proofs.Splits.{part-of, join-split}
 use Rattle.simplex.proofs.Peak.{peak-cong}
-use Rattle.simplex.proofs.Padding.{at-padded, padded-cong, length-padded}
+use Rattle.simplex.proofs.Padding.{padded-cong}
 use Rattle.simplex.proofs.Slots.{place-in}
 
 -- ---- a corner depends on the first n coordinates only
@@ -49,17 +49,18 @@ module _ (d S : ℕ) (x : List ℤ) (Q : Placed d S x) where
   pub near-of : Near ((d + 1) * S) x (length x)
   near-of = record { total = total-of; few = omega (arith, Q .size, Q .d-most); near = λ i l. Q .near i (omega (arith, Q .size)) }
 
-  module _ {floors rests : List ℤ} (R : ResidualsOf ((d + 1) * S) (length x) x floors rests) where
+  module _ {floors rests : List ℤ} (R : ResidualOf ((d + 1) * S) (length x) x floors rests) where
     floor-at : (i : ℕ) → i < d + 1 → at floors i ≡ floor (at x i) ((d + 1) * S)
-    floor-at i l = ap (λ (k : List ℤ). at k i) (R .floors-are) ∙ at-padded (length x) (λ i. floor (at x i) ((d + 1) * S)) i (omega (arith, Q .size)) (omega (arith, Q .size, Q .d-most))
+    floor-at i l = R .floor-at i (omega (arith, Q .size))
 
     rest-at : (i : ℕ) → i < d + 1 → at rests i ≡ pos (remainder (at x i) ((d + 1) * S))
-    rest-at i l = ap (λ (k : List ℤ). at k i) (R .rests-are) ∙ at-padded (length x) (λ i. pos (remainder (at x i) ((d + 1) * S))) i (omega (arith, Q .size)) (omega (arith, Q .size, Q .d-most))
+    rest-at i l = R .rest-at i (omega (arith, Q .size))
 
     pub parts-of : Parts ((d + 1) * S) (d + 1) floors rests
     parts-of = record {
       total = total-of;
       few = omega (arith, Q .d-most);
+      six = R .six;
       part = λ i l. rw (floor-at i l, rest-at i l) (part-of ((d + 1) * S) (at x i) (total-of .some) (Q .near i (omega arith)));
     }
 
@@ -81,10 +82,9 @@ no-coords d S x = refl
 
 -- ---- a turn
 pub room-of : (d S : ℕ) (x : List ℤ) (j : ℕ) → 0 < S → d ≤ 5 → j < suc d → {point : List ℤ} {slot weight : ℕ} → CornerIs (W d S) (suc d) (at x) j point slot weight
-    → {coords : List ℤ} → coords ≡ slotCoords d S x j → Room coords point slot
+    → {coords : List ℤ} → coords ≡ slotCoords d S x j → Room coords slot
 unfolding slotCoords
 room-of d S x j p h q C e = record {
   slots = rw e (length-tab 36 _);
-  places = rw (C .point-is) (length-padded (suc d) _);
   slot-in = place-in d S x j p q C h;
 }

@@ -7,7 +7,7 @@ use native.Mathlib.Numerals.{add-one}
 use native.Mathlib.Omega.{arith}
 use lib.IntN.{ℤ, pos, negℤ, _+ℤ_, _-ℤ_, _*ℤ_}
 use lib.Signed.{_≤ℤ_, _<ℤ_}
-use lib.ListN.{set, replicate}
+use lib.ListN.{length, set, length-set}
 use Rattle.whole.specs.Size.{P, Abs≤, Within}
 use Rattle.whole.specs.Floor.{floor, remainder}
 use Rattle.whole.specs.Sum.{sum}
@@ -16,23 +16,25 @@ use Rattle.whole.proofs.Parts.{zin, zout}
 use Rattle.whole.proofs.Readings.{zlin}
 use Rattle.whole.proofs.Ring.{le-or-lt}
 use Rattle.whole.proofs.Size.{zabs}
+use Rattle.whole.proofs.Lists.{place-more}
 use Rattle.whole.proofs.Floor.{remainder-lt}
 use Rattle.whole.proofs.Sum.{sum-more, sum-abs}
 use Rattle.lattice.specs.Points.{spanned}
-use Rattle.simplex.specs.Inner.{padded, peak, Total, SplitOf, joined, Part, Parts, coordinate, StepsFrom, Span, CornerIs}
+use Rattle.simplex.specs.Inner.{peak, Total, SplitOf, joined, Part, Parts, coordinate, StepsFrom, Span, CornerFrom}
 use Rattle.simplex.proofs.Splits.{minus-low, minus-high}
 use Rattle.simplex.proofs.Peak.{peak-le}
-use Rattle.simplex.proofs.Padding.{padded-none, padded-more, padded-cong, at-padded}
+use Rattle.simplex.proofs.Padding.{padded-cong}
 
-pub steps-none : (w : ℕ) (x : ℕ → ℤ) (j : ℕ) → StepsFrom w 0 x j (replicate 6 (pos 0)) (pos 0) (pos 0)
+pub steps-none : (w : ℕ) (x : ℕ → ℤ) (j : ℕ) {z : List ℤ} → length z ≡ 6 → StepsFrom w 0 x j z (pos 0) (pos 0)
 unfolding sum peak
-steps-none w x j = record { z-is = padded-none (λ i. floor (x i -ℤ x j) w); total-is = refl; spread-is = refl }
+steps-none w x j e = record { z-six = e; z-is = λ i l. absurd (omega arith); total-is = refl; spread-is = refl }
 
 pub steps-more : (w i : ℕ) (x : ℕ → ℤ) (j : ℕ) {z : List ℤ} {t v t′ : ℤ} {s s′ : ℕ} → i < 6 → StepsFrom w i x j z t (pos s)
     → v ≡ floor (x i -ℤ x j) w → t′ ≡ t +ℤ v → s′ ≡ max s (remainder (x i -ℤ x j) w) → StepsFrom w (i + 1) x j (set z i v) t′ (pos s′)
 unfolding peak
-steps-more w i x j {t} {v} {s} h S e f g = record {
-  z-is = padded-more i (λ i. floor (x i -ℤ x j) w) h (S .z-is) e;
+steps-more w i x j {z} {t} {v} {s} h S e f g = record {
+  z-six = length-set z i v ∙ S .z-six;
+  z-is = place-more (λ i. floor (x i -ℤ x j) w) z (pos 0) i v (omega (arith, S .z-six)) e (S .z-is);
   total-is = f ∙ ap₂ _+ℤ_ (S .total-is) e ∙ sym (sum-more i (λ i. floor (x i -ℤ x j) w));
   spread-is = ap pos (g ∙ ap (λ (k : ℕ). max k (remainder (x i -ℤ x j) w)) (pos-same (S .spread-is))) ∙ rw add-one refl;
 }
@@ -60,24 +62,24 @@ module _ (w n : ℕ) (floors rests : List ℤ) (j : ℕ) (Q : Parts w n floors r
   each-near : (i : ℕ) → i < n → Abs≤ (floor (x i -ℤ x j) w) 2000001
   each-near i l = floor-near w (at floors i) (at rests i) (at floors j) (at rests j) (Q .part i l) (Q .part j q)
 
-  z-at : (i : ℕ) → i < n → at z i ≡ floor (x i -ℤ x j) w
-  z-at i l = ap (λ (k : List ℤ). at k i) (F .z-is) ∙ at-padded n (λ i. floor (x i -ℤ x j) w) i l (Q .few)
-
   pub span-of : Span n z t
   span-of = record {
     few = Q .few;
+    z-six = F .z-six;
     total-near = let b = sum-abs n (λ i. floor (x i -ℤ x j) w) 2000001 each-near in let k = Q .few in rw (F .total-is) (record { abs = omega arith });
-    z-near = λ i l. rw (z-at i l) (each-near i l);
+    z-near = λ i l. rw (F .z-is i l) (each-near i l);
   }
 
   pub spread-le : s ≤ w
   spread-le = let k = ap P (F .spread-is) in
       omega (arith, k, peak-le n (λ i. remainder (x i -ℤ x j) w) w (λ i l. let r = remainder-lt (x i -ℤ x j) w (Q .total .some) in omega arith))
 
-  pub corner-made : {point : List ℤ} {slot weight : ℕ} → point ≡ padded n (λ i. pos n *ℤ at z i -ℤ t) → slot ≡ remainder (negℤ t) n → weight ≡ w - s → CornerIs w n x j point slot weight
-  corner-made e f g = record {
-    point-is = e ∙ padded-cong n (λ i. pos n *ℤ at z i -ℤ t) (spanned n (λ i. floor (x i -ℤ x j) w)) (λ i l.
-        ap₂ (λ (a b : ℤ). pos n *ℤ a -ℤ b) (z-at i l) (F .total-is));
-    slot-is = f ∙ ap (λ (y : ℤ). remainder (negℤ y) n) (F .total-is);
-    weight-is = g ∙ ap (λ (k : ℕ). w - k) (ap P (F .spread-is));
+  pub corner-made : {slot weight : ℕ} → slot ≡ remainder (negℤ t) n → weight ≡ w - s → CornerFrom w n x j z t slot weight
+  corner-made f g = record {
+    span = span-of;
+    corner = record {
+      point-is = padded-cong n (λ i. pos n *ℤ at z i -ℤ t) (spanned n (λ i. floor (x i -ℤ x j) w)) (λ i l. ap₂ (λ (a b : ℤ). pos n *ℤ a -ℤ b) (F .z-is i l) (F .total-is));
+      slot-is = f ∙ ap (λ (y : ℤ). remainder (negℤ y) n) (F .total-is);
+      weight-is = g ∙ ap (λ (k : ℕ). w - k) (ap P (F .spread-is));
+    };
   }

@@ -43,15 +43,22 @@ pub record Part (w : ℕ) (q r : ℤ) : Type 0 where
   pub low : pos 0 ≤ℤ r
   pub high : r <ℤ pos w
 
--- the first n splits of two lists
+-- two lists of six places
+pub record Six (floors rests : List ℤ) : Type 0 where
+  pub floors-six : length floors ≡ 6
+  pub rests-six : length rests ≡ 6
+
+-- the first n splits of two lists of six
 pub record Parts (w n : ℕ) (floors rests : List ℤ) : Type 0 where
   pub total : Total w
   pub few : n ≤ 6
+  pub six : Six floors rests
   pub part : (i : ℕ) → i < n → Part w (at floors i) (at rests i)
 
 -- two of the splits
 pub record Between (w : ℕ) (floors rests : List ℤ) (i j : ℕ) : Type 0 where
   pub total : Total w
+  pub six : Six floors rests
   pub i-in : i < 6
   pub j-in : j < 6
   pub here : Part w (at floors i) (at rests i)
@@ -67,21 +74,29 @@ pub record Near (w : ℕ) (x : List ℤ) (n : ℕ) : Type 0 where
   pub few : n ≤ 6
   pub near : (i : ℕ) → i < n → Abs≤ (at x i) farthest
 
-pub record ResidualsOf (w n : ℕ) (x floors rests : List ℤ) : Type 0 where
-  pub floors-are : floors ≡ padded n (λ i. floor (at x i) w)
-  pub rests-are : rests ≡ padded n (λ i. pos (remainder (at x i) w))
+-- the splits of the first n coordinates in them
+pub record ResidualOf (w n : ℕ) (x floors rests : List ℤ) : Type 0 where
+  pub six : Six floors rests
+  pub floor-at : (i : ℕ) → i < n → at floors i ≡ floor (at x i) w
+  pub rest-at : (i : ℕ) → i < n → at rests i ≡ pos (remainder (at x i) w)
 
 -- the differences from place j: floors, their sum, and the greatest remainder
 pub record StepsFrom (w n : ℕ) (x : ℕ → ℤ) (j : ℕ) (z : List ℤ) (total spread : ℤ) : Type 0 where
-  pub z-is : z ≡ padded n (λ i. floor (x i -ℤ x j) w)
+  pub z-six : length z ≡ 6
+  pub z-is : (i : ℕ) → i < n → at z i ≡ floor (x i -ℤ x j) w
   pub total-is : total ≡ sum n (λ i. floor (x i -ℤ x j) w)
   pub spread-is : spread ≡ pos (peak n (λ i. remainder (x i -ℤ x j) w))
 
 -- what keeps a point in 32 bits
 pub record Span (n : ℕ) (z : List ℤ) (total : ℤ) : Type 0 where
   pub few : n ≤ 6
+  pub z-six : length z ≡ 6
   pub total-near : Abs≤ total 12000006
   pub z-near : (i : ℕ) → i < n → Abs≤ (at z i) 2000001
+
+-- the point that n numbers z of this sum make
+abbrev pub pointOf : ℕ → List ℤ → ℤ → List ℤ
+pointOf n z total = padded n (λ i. pos n *ℤ at z i -ℤ total)
 
 -- the corner of place j, with its remainder and its weight
 pub record CornerIs (w n : ℕ) (x : ℕ → ℤ) (j : ℕ) (point : List ℤ) (slot weight : ℕ) : Type 0 where
@@ -89,8 +104,12 @@ pub record CornerIs (w n : ℕ) (x : ℕ → ℤ) (j : ℕ) (point : List ℤ) (
   pub slot-is : slot ≡ remainder (negℤ (sum n (λ i. floor (x i -ℤ x j) w))) n
   pub weight-is : weight ≡ w - peak n (λ i. remainder (x i -ℤ x j) w)
 
--- six slots of six coordinates, and a point for one of them
-pub record Room (coords point : List ℤ) (slot : ℕ) : Type 0 where
+-- and as the numbers that its point is made of
+pub record CornerFrom (w n : ℕ) (x : ℕ → ℤ) (j : ℕ) (z : List ℤ) (total : ℤ) (slot weight : ℕ) : Type 0 where
+  pub corner : CornerIs w n x j (pointOf n z total) slot weight
+  pub span : Span n z total
+
+-- six slots of six coordinates, and one of them
+pub record Room (coords : List ℤ) (slot : ℕ) : Type 0 where
   pub slots : length coords ≡ 36
-  pub places : length point ≡ 6
   pub slot-in : slot < 6

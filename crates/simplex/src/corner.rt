@@ -1,22 +1,24 @@
 // The corner of a place j: the lattice point of z[i] = floor((x[i] - x[j]) / W), from the residual.
 ghost use mathlib.Core.Path.{_≡_};
 ghost use Prim.Native.Nat.{_<_, max};
+ghost use mathlib.Core.Bool.{cond};
+ghost use lib.Dec.{ltb};
 ghost use lib.IntN.{pos, _-ℤ_, _*ℤ_};
+ghost use lib.ListN.{length};
 ghost use Rattle.whole.specs.Lists.{at};
-ghost use Rattle.simplex.specs.Inner.{Parts, coordinate, padded, StepsFrom, Span, CornerIs};
-use crate::residual::Residuals;
+ghost use Rattle.simplex.specs.Inner.{Parts, coordinate, StepsFrom, Span, CornerFrom};
 use crate::residual::difference;
 
-// The floors z of the differences from one place, their sum, and the greatest of the remainders.
+// The sum of the floors of the differences from one place, and the greatest of the remainders.
 struct Steps {
-    z: [i32; 6],
     total: i32,
     spread: u32,
 }
 
-// A lattice point, the remainder that its coordinates leave, and its weight.
+// What a corner is made of beside its floors: their sum, the remainder that its coordinates leave, and
+// its weight.
 pub struct Corner {
-    pub point: [i32; 6],
+    pub total: i32,
     pub slot: usize,
     pub weight: u32,
 }
@@ -27,52 +29,62 @@ fn larger(a: u32, b: u32) -> u32
     if a < b { b } else { a }
 }
 
-// One difference a turn: place i from place j.
-fn steps_from(res: Residuals, n: usize, w: u32, j: usize) -> Steps
-    requires { ⌜ Parts w n (res .floors) (res .rests) ⌝ }
+// One difference a turn: place i from place j. The floors are left in z, where the point is made from
+// them: an array handed back would be copied.
+fn steps_from(floors: &[i32], rests: &[i32], n: usize, w: u32, j: usize, z: &mut [i32; 6]) -> Steps
+    requires { ⌜ Parts w n (now floors) (now rests) ⌝ }
     requires { ⌜ j < n ⌝ }
-    ensures { λ r. ⌜ StepsFrom w n (coordinate w (res .floors) (res .rests)) j (r .z) (r .total) (pos (r .spread)) ⌝ }
+    requires { ⌜ length (now z) ≡ 6 ⌝ }
+    ensures { λ r. ⌜
+        (let x = coordinate w (now (floors .entry)) (now (rests .entry)) in
+        StepsFrom w n x j (now (z .exit)) (r .total) (pos (r .spread)))
+        ⌝ }
 {
-    let mut z = [0i32; 6];
     let mut total = 0;
     let mut spread = 0;
     for i in 0..n {
-        let s = difference(res, i, j, w);
+        let s = difference(floors, rests, i, j, w);
         let q = s.floor;
         z[i] = q;
         total = total + q;
         spread = larger(spread, s.rest as u32);
     }
-    Steps { z, total, spread }
+    Steps { total, spread }
 }
 
-// The lattice point n * z[i] - total of up to six numbers z with that sum.
-fn spanned_by(z: [i32; 6], total: i32, n: usize) -> [i32; 6]
-    requires { ⌜ Span n z total ⌝ }
-    ensures { λ r. ⌜ r ≡ padded n (λ i. pos n *ℤ at z i -ℤ total) ⌝ }
-{
-    let mut y = [0i32; 6];
-    for i in 0..n {
-        y[i] = (n as i32) * z[i] - total;
-    }
-    y
-}
-
-// The corner of place j. Its weight is W less the greatest remainder of the differences from j, since
-// those are its residuals up to a constant.
-pub fn corner_of(res: Residuals, n: usize, w: u32, j: usize) -> Corner
-    requires { ⌜ Parts w n (res .floors) (res .rests) ⌝ }
+// The corner of place j, with its floors in z. Its weight is W less the greatest remainder of the
+// differences from j, since those are its residuals up to a constant.
+pub fn corner_of(
+    floors: &[i32],
+    rests: &[i32],
+    n: usize,
+    w: u32,
+    j: usize,
+    z: &mut [i32; 6],
+) -> Corner
+    requires { ⌜ Parts w n (now floors) (now rests) ⌝ }
     requires { ⌜ j < n ⌝ }
-    ensures { λ r. ⌜ CornerIs w n (coordinate w (res .floors) (res .rests)) j (r .point) (r .slot) (r .weight) ⌝ }
+    requires { ⌜ length (now z) ≡ 6 ⌝ }
+    ensures { λ r. ⌜
+        (let x = coordinate w (now (floors .entry)) (now (rests .entry)) in
+        CornerFrom w n x j (now (z .exit)) (r .total) (r .slot) (r .weight))
+        ⌝ }
 {
-    let s = steps_from(res, n, w, j);
+    let s = steps_from(floors, rests, n, w, j, z);
     let total = s.total;
-    let z = s.z;
     let k = whole::division::remainder_of(-total, n as u32);
-    let y = spanned_by(z, total, n);
     Corner {
-        point: y,
+        total,
         slot: k as usize,
         weight: w - s.spread,
     }
+}
+
+// The coordinate at place i of the point n * z[i] - total; what a point of n coordinates does not use
+// of six places is 0.
+pub fn point_at(z: &[i32], total: i32, n: usize, i: usize) -> i32
+    requires { ⌜ Span n (now z) total ⌝ }
+    ensures { λ r. ⌜ r ≡ cond (ltb i n) (pos n *ℤ at (now (z .entry)) i -ℤ total) (pos 0) ⌝ }
+{
+    if i < n { (n as i32) * z[i] - total } else { 0 }
 }

@@ -2,14 +2,15 @@
 ghost use mathlib.Core.Path.{_≡_};
 ghost use Prim.Native.Nat.{_*_};
 ghost use Rattle.whole.specs.Lists.{splice};
-ghost use Rattle.simplex.specs.Inner.{Room};
+ghost use Rattle.simplex.specs.Inner.{Room, Span, pointOf};
 ghost use Rattle.simplex.specs.Slots.{Placed, Encloses};
 
 mod corner;
 mod residual;
 
 use crate::corner::corner_of;
-use crate::residual::residuals_of;
+use crate::corner::point_at;
+use crate::residual::put_residual;
 
 // Slot k is the point that leaves remainder k: its weight, 0 where there is none, and its
 // coordinates from 6 * k on. What a slot does not use is 0.
@@ -18,15 +19,15 @@ pub struct Simplex {
     pub coords: [i32; 36],
 }
 
-// A point's coordinates into its slot.
-fn put_point(coords: &mut [i32; 36], slot: usize, point: [i32; 6])
-    requires { ⌜ Room (now coords) point slot ⌝ }
-    ensures { λ r. ⌜ now (coords .exit) ≡ splice (now (coords .entry)) (6 * slot) point ⌝ }
+// The point n * z[i] - total into its slot.
+fn put_point(coords: &mut [i32; 36], slot: usize, z: &[i32], total: i32, n: usize)
+    requires { ⌜ Room (now coords) slot ⌝ }
+    requires { ⌜ Span n (now z) total ⌝ }
+    ensures { λ r. ⌜ now (coords .exit) ≡ splice (now (coords .entry)) (6 * slot) (pointOf n (now (z .entry)) total) ⌝ }
 {
     let start = 6 * slot;
     for i in 0..6 {
-        let v = point[i];
-        coords[start + i] = v;
+        coords[start + i] = point_at(z, total, n, i);
     }
 }
 
@@ -39,15 +40,19 @@ pub fn enclose(x: &[i32], d: usize, fineness: u32) -> Simplex
 {
     let n = d + 1;
     let w = (n as u32) * fineness;
-    let res = residuals_of(x, w);
-    let mut weights = [0u32; 6];
-    let mut coords = [0i32; 36];
+    let mut floors = [0i32; 6];
+    let mut rests = [0i32; 6];
+    put_residual(x, w, &mut floors, &mut rests);
+    let mut z = [0i32; 6];
+    let mut simplex = Simplex {
+        weights: [0u32; 6],
+        coords: [0i32; 36],
+    };
     for j in 0..n {
-        let c = corner_of(res, n, w, j);
+        let c = corner_of(&floors, &rests, n, w, j, &mut z);
         let k = c.slot;
-        let y = c.point;
-        weights[k] = c.weight;
-        put_point(&mut coords, k, y);
+        simplex.weights[k] = c.weight;
+        put_point(&mut simplex.coords, k, &z, c.total, n);
     }
-    Simplex { weights, coords }
+    simplex
 }

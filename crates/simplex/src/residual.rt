@@ -3,7 +3,7 @@ ghost use lib.IntN.{_-ℤ_};
 ghost use lib.ListN.{length};
 ghost use Rattle.whole.specs.Size.{Abs≤};
 ghost use Rattle.lattice.specs.Limits.{farthest};
-ghost use Rattle.simplex.specs.Inner.{Total, SplitOf, joined, Part, Between, coordinate, Near, ResidualsOf};
+ghost use Rattle.simplex.specs.Inner.{Total, SplitOf, joined, Part, Between, coordinate, Near, Six, ResidualOf};
 
 // x = w * floor + rest, with rest from 0 to w - 1.
 pub struct Split {
@@ -11,44 +11,34 @@ pub struct Split {
     pub rest: i32,
 }
 
-// The same of up to six coordinates.
-pub struct Residuals {
-    pub floors: [i32; 6],
-    pub rests: [i32; 6],
-}
-
-// In 64 bits, and down to 32 once it is known to fit: one division, and the remainder by a product.
+// One division, and the remainder by a product.
 fn split_of(x: i32, w: u32) -> Split
     requires { ⌜ Abs≤ x farthest ⌝ }
     requires { ⌜ Total w ⌝ }
     ensures { λ r. ⌜ SplitOf w x (r .floor) (r .rest) ⌝ }
 {
-    let wide = x as i64;
-    let q = whole::division::floor_of(wide, w);
-    let r = wide - (w as i64) * q;
+    let q = whole::division::floor_of(x, w);
     Split {
-        floor: q as i32,
-        rest: r as i32,
+        floor: q,
+        rest: x - (w as i32) * q,
     }
 }
 
-// The splits of the coordinates in their order, and 0 in the places that are left.
-pub fn residuals_of(x: &[i32], w: u32) -> Residuals
+// The splits of up to six coordinates, in their order. They are written where the corners read them:
+// arrays handed back would be copied.
+pub fn put_residual(x: &[i32], w: u32, floors: &mut [i32; 6], rests: &mut [i32; 6])
     requires { ⌜ Near w (now x) (length (now x)) ⌝ }
-    ensures { λ r. ⌜ ResidualsOf w (length (now (x .entry))) (now (x .entry)) (r .floors) (r .rests) ⌝ }
+    requires { ⌜ Six (now floors) (now rests) ⌝ }
+    ensures { λ r. ⌜ ResidualOf w (length (now (x .entry))) (now (x .entry)) (now (floors .exit)) (now (rests .exit)) ⌝ }
 {
-    let mut floors = [0i32; 6];
-    let mut rests = [0i32; 6];
     let n = x.len();
     for i in 0..n {
-        let c = x[i];
-        let s = split_of(c, w);
+        let s = split_of(x[i], w);
         let q = s.floor;
         let r = s.rest;
         floors[i] = q;
         rests[i] = r;
     }
-    Residuals { floors, rests }
 }
 
 // The split of a difference, from those of its two sides: one W is borrowed where the remainder is
@@ -72,12 +62,13 @@ fn minus(a: Split, b: Split, w: u32) -> Split
 }
 
 // The split of x[i] - x[j], from the residual of x.
-pub fn difference(res: Residuals, i: usize, j: usize, w: u32) -> Split
-    requires { ⌜ Between w (res .floors) (res .rests) i j ⌝ }
-    ensures { λ r. ⌜ SplitOf w (coordinate w (res .floors) (res .rests) i -ℤ coordinate w (res .floors) (res .rests) j) (r .floor) (r .rest) ⌝ }
+pub fn difference(floors: &[i32], rests: &[i32], i: usize, j: usize, w: u32) -> Split
+    requires { ⌜ Between w (now floors) (now rests) i j ⌝ }
+    ensures { λ r. ⌜
+        (let x = coordinate w (now (floors .entry)) (now (rests .entry)) in
+        SplitOf w (x i -ℤ x j) (r .floor) (r .rest))
+        ⌝ }
 {
-    let floors = res.floors;
-    let rests = res.rests;
     let here = Split {
         floor: floors[i],
         rest: rests[i],

@@ -35,7 +35,9 @@ pub fn index_is_sparse(index: &[u16], capacity: usize, points: usize) -> bool
     named == points
 }
 
-// Whether the search for the key of point i ends at a place that names point i.
+// Whether the search for the key of point i ends at a place that names point i. It is compared in 16
+// bits: an equality with the loop's own i + 1 would let the compiler go on from the entry read, and then
+// each search would wait for the one before it.
 fn finds(keys: &[i32], index: &[u16], d: usize, capacity: usize, points: usize, i: usize) -> bool
     requires { ⌜ Findable d capacity points (now keys) (now index) ⌝ }
     requires { ⌜ i < points ⌝ }
@@ -45,7 +47,7 @@ fn finds(keys: &[i32], index: &[u16], d: usize, capacity: usize, points: usize, 
     let b = a + d;
     let p = index::search::search(keys, index, capacity, &keys[a..b]);
     let e = index[p];
-    (e as usize) == i + 1
+    e == (i + 1) as u16
 }
 
 // The same for each of the points.

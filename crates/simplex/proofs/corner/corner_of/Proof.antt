@@ -2,14 +2,13 @@
 use borrow.Author.Needs.{needs}
 use native.Mathlib.Omega.{arith}
 use mathlib.Core.Path.{_≡_, refl, ap, _∙_}
-use lib.IntN.{ℤ, pos, _-ℤ_, _*ℤ_}
+use lib.IntN.{ℤ, pos, negℤ, _-ℤ_}
 use lib.Dec.{lit<}
+use Rattle.whole.specs.Size.{Abs≤}
 use Rattle.whole.specs.Floor.{remainder}
-use Rattle.whole.specs.Lists.{at}
 use Rattle.whole.proofs.Parts.{zin}
 use Rattle.whole.proofs.Readings.{zlin, zeq, zfits, W32}
 use Rattle.whole.proofs.Size.{back32}
-use Rattle.simplex.specs.Inner.{Span, padded}
 use Rattle.simplex.proofs.Steps.{span-of, spread-le, corner-made}
 use Rattle.simplex.proofs.corner.corner_of.Statement.{statement}
 use Rattle.simplex.proofs.corner.corner_of.Tie as tie
@@ -17,14 +16,11 @@ use Rattle.simplex.proofs.corner.corner_of.Tie as tie
 steps-from-requires : tie.Need-steps-from-requires
 steps-from-requires c κs = search needs
 
-span : (c : tie.After-steps-from) → Span (c .before .args .n) (c .steps-from .result .z) (c .steps-from .result .total)
-span c = span-of _ _ _ _ _ (c .before .pre .0) (c .before .pre .1) (c .steps-from .ensures)
-
-own : (c : tie.After-steps-from) → W32 (c .steps-from .result .total) ≡ c .steps-from .result .total
-own c = back32 (span c .total-near) (lit< tt)
+near : (c : tie.After-steps-from) → Abs≤ (c .steps-from .result .total) 12000006
+near c = let p = c .before .before .pre in span-of _ _ _ _ _ (p .0) (p .1 .0) (c .steps-from .ensures) .total-near
 
 sub-remainder-of : tie.Need-sub-remainder-of
-sub-remainder-of c = let s = span (c .before .before) in zfits (search zlin depth 14) (omega (arith, zin))
+sub-remainder-of c = let s = near (c .before) in zfits (search zlin depth 14) (omega (arith, zin))
 
 cast-remainder-of : tie.Need-cast-remainder-of
 cast-remainder-of c = search needs
@@ -32,24 +28,20 @@ cast-remainder-of c = search needs
 remainder-of-requires : tie.Need-remainder-of-requires
 remainder-of-requires c κs = search needs
 
-spanned-by-requires : tie.Need-spanned-by-requires
-spanned-by-requires c κs = let a = c .before .before .before in rw (own a) (span a)
+cast-t13 : tie.Need-cast-t13
+cast-t13 c = search needs
 
-cast-t12 : tie.Need-cast-t12
-cast-t12 c = search needs
-
-sub-t11 : tie.Need-sub-t11
-sub-t11 c = let a = c .before .before .before .before .before in spread-le _ _ _ _ _ (a .before .pre .0) (a .before .pre .1) (a .steps-from .ensures)
+sub-t12 : tie.Need-sub-t12
+sub-t12 c = let a = c .before .before .before in let p = a .before .before .pre in spread-le _ _ _ _ _ (p .0) (p .1 .0) (a .steps-from .ensures)
 
 returns : tie.Need-returns
 returns c =
-    let a = c .before .before .before .before .before in
+    let a = c .before .before .before in
+    let p = a .before .before .pre in
+    let s = near a in
     let t = a .steps-from .result .total in
-    let s = span a in
-    corner-made _ _ _ _ _ (a .before .pre .0) (a .before .pre .1) (a .steps-from .ensures)
-    (c .before .spanned-by .ensures ∙ ap (λ (y : ℤ). padded (a .before .args .n) (λ i. pos (a .before .args .n) *ℤ at (a .steps-from .result .z) i -ℤ y)) (own a))
-    (c .before .before .remainder-of .ensures ∙ ap (λ (y : ℤ). remainder y (a .before .args .n)) {x = W32 (pos 0 -ℤ W32 t)} (zeq (search zlin depth 14) (omega (arith, zin))))
-    refl
+    let slot : c .before .remainder-of .result ≡ remainder (negℤ t) (a .before .before .args .n) = c .before .remainder-of .ensures ∙ ap (λ (y : ℤ). remainder y (a .before .before .args .n)) {x = W32 (pos 0 -ℤ W32 t)} (zeq (search zlin depth 14) (omega (arith, zin))) in
+    rw (back32 s (lit< tt)) (corner-made _ _ _ _ _ (p .0) (p .1 .0) (a .steps-from .ensures) slot refl)
 
 pub corner-of-spec : {M : Type 1} → statement M
 corner-of-spec =
@@ -59,7 +51,6 @@ corner-of-spec =
     sub-remainder-of
     cast-remainder-of
     remainder-of-requires
-    spanned-by-requires
-    cast-t12
-    sub-t11
+    cast-t13
+    sub-t12
     returns)

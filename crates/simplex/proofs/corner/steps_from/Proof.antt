@@ -17,21 +17,21 @@ use Rattle.simplex.proofs.corner.steps_from.Statement.{statement}
 use Rattle.simplex.proofs.corner.steps_from.Tie as tie
 
 abbrev Inv-loop : tie.InvT-loop
-Inv-loop res n w j z₀ total₀ spread₀ i₀ z total spread i =
-    (i ≤ n) × StepsFrom w i (coordinate w (res .floors) (res .rests)) j z (toZ w32 total) (pos spread) × Abs≤ (toZ w32 total) (i * 2000001)
+Inv-loop floors rests n w j z₀ total₀ spread₀ i₀ z total spread i =
+    (i ≤ n) × StepsFrom w i (coordinate w floors rests) j z (toZ w32 total) (pos spread) × Abs≤ (toZ w32 total) (i * 2000001)
 
 abbrev μ-loop : tie.MeasureT-loop
-μ-loop res n w j z₀ total₀ spread₀ i₀ z total spread i = n - i
+μ-loop floors rests n w j z₀ total₀ spread₀ i₀ z total spread i = n - i
 
 loop-holds : tie.Need-loop-holds Inv-loop μ-loop
-loop-holds c = (search needs, steps-none _ _ _, zabs (search zlin depth 14) (omega arith))
+loop-holds c = (search needs, steps-none _ _ _ (c .pre .1 .1), zabs (search zlin depth 14) (omega arith))
 
 -- the splits of place i and of place j
-between : (c : tie.In-loop Inv-loop μ-loop) → Between (c .before .before .args .w) (c .before .before .args .res .floors) (c .before .before .args .res .rests) (c .before .loop .i) (c .before .before .args .j)
+between : (c : tie.In-loop Inv-loop μ-loop) → Between (c .before .before .args .w) (c .before .before .args .floors .now) (c .before .before .args .rests .now) (c .before .loop .i) (c .before .before .args .j)
 between c =
     let p = c .before .before .pre in
     let k = p .0 .few in
-    record { total = p .0 .total; i-in = omega arith; j-in = omega arith; here = p .0 .part (c .before .loop .i) (search needs); base = p .0 .part (c .before .before .args .j) (p .1) }
+    record { total = p .0 .total; six = p .0 .six; i-in = omega arith; j-in = omega arith; here = p .0 .part (c .before .loop .i) (search needs); base = p .0 .part (c .before .before .args .j) (p .1 .0) }
 
 difference-requires : tie.Need-difference-requires Inv-loop μ-loop
 difference-requires c κs = between c
@@ -46,11 +46,11 @@ rest c = rest-within (c .difference .ensures) (between (c .before) .total)
 rest-own : (c : tie.After-difference Inv-loop μ-loop) → W32 (c .difference .result .rest) ≡ c .difference .result .rest
 rest-own c = let r = rest c in zeq (search zlin depth 14) (omega (arith, zin))
 
-mul-z : tie.Need-mul-z Inv-loop μ-loop
-mul-z c = let b = between (c .before .before) in omega arith
+mul-q : tie.Need-mul-q Inv-loop μ-loop
+mul-q c = let b = between (c .before .before) in omega arith
 
-array-set-from-z : tie.Need-array-set-from-z Inv-loop μ-loop
-array-set-from-z c = let b = between (c .before .before) in omega arith
+element-set-from-q : tie.Need-element-set-from-q Inv-loop μ-loop
+element-set-from-q c = let b = between (c .before .before) in omega arith
 
 add-total : tie.Need-add-total Inv-loop μ-loop
 add-total c = let b = between (c .before .before) in let q = near (c .before) in zfits (search zlin depth 14) (omega (arith, zin))
@@ -94,8 +94,8 @@ steps-from-spec =
     μ-loop
     loop-holds
     difference-requires
-    mul-z
-    array-set-from-z
+    mul-q
+    element-set-from-q
     add-total
     cast-larger
     larger-requires

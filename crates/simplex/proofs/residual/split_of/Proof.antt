@@ -7,7 +7,7 @@ use lib.IntN.{ℤ, pos, _+ℤ_, _*ℤ_}
 use Rattle.whole.specs.Size.{P, N, Abs≤}
 use Rattle.whole.specs.Floor.{floor, remainder}
 use Rattle.whole.proofs.Parts.{zin}
-use Rattle.whole.proofs.Readings.{zlin, zlow, zeq, zfits, eq-plus, W32, W64}
+use Rattle.whole.proofs.Readings.{zlin, zlow, zeq, zfits, eq-plus, W32}
 use Rattle.whole.proofs.Floor.{div-rem, remainder-lt}
 use Rattle.lattice.specs.Limits.{farthest}
 use Rattle.simplex.proofs.Splits.{part-of}
@@ -16,7 +16,7 @@ use Rattle.simplex.proofs.residual.split_of.Tie as tie
 
 -- the floor is that of x itself, and no larger; W times it is x less the remainder
 is : (c : tie.After-floor-of) → c .floor-of .result ≡ floor (c .before .args .x) (c .before .args .w)
-is c = c .floor-of .ensures ∙ ap (λ (z : ℤ). floor z (c .before .args .w)) {x = W64 (W32 (c .before .args .x))} (zeq (search zlin depth 14) (omega (arith, zin)))
+is c = c .floor-of .ensures ∙ ap (λ (z : ℤ). floor z (c .before .args .w)) {x = W32 (c .before .args .x)} (zeq (search zlin depth 14) (omega (arith, zin)))
 
 whole : (c : tie.After-floor-of) → c .before .args .x ≡ pos (c .before .args .w) *ℤ c .floor-of .result +ℤ pos (remainder (c .before .args .x) (c .before .args .w))
 whole c = rw (is c) (div-rem (c .before .args .x) (c .before .args .w) (c .before .pre .1 .some))
@@ -33,26 +33,17 @@ sized c = let x = c .before .args .x in let w = c .before .args .w in record {
   parts = eq-plus x (pos w *ℤ c .floor-of .result) (pos (remainder x w)) (whole c);
 }
 
-cast-wide : tie.Need-cast-wide
-cast-wide c = zfits (search zlin depth 14) (omega (arith, zin))
-
 floor-of-requires : tie.Need-floor-of-requires
 floor-of-requires c κs = search needs
 
-cast-r : tie.Need-cast-r
-cast-r c = search needs
+cast-t4 : tie.Need-cast-t4
+cast-t4 c = search needs
 
-mul-r : tie.Need-mul-r
-mul-r c = let s = sized c in zfits (search zlow depth 14) (omega (arith, zin))
+mul-t5 : tie.Need-mul-t5
+mul-t5 c = let s = sized c in zfits (search zlow depth 14) (omega (arith, zin))
 
-sub-r : tie.Need-sub-r
-sub-r c = let s = sized c in zfits (search zlow depth 14) (omega (arith, zin))
-
-cast-t8 : tie.Need-cast-t8
-cast-t8 c = let s = sized c in zfits (search zlow depth 14) (omega (arith, zin))
-
-cast-t9 : tie.Need-cast-t9
-cast-t9 c = let s = sized c in zfits (search zlow depth 14) (omega (arith, zin))
+sub-t6 : tie.Need-sub-t6
+sub-t6 c = let s = sized c in zfits (search zlow depth 14) (omega (arith, zin))
 
 returns : tie.Need-returns
 returns c = let s = sized c in record {
@@ -61,4 +52,4 @@ returns c = let s = sized c in record {
 }
 
 pub split-of-spec : {M : Type 1} → statement M
-split-of-spec = tie.close (tie.spec cast-wide floor-of-requires cast-r mul-r sub-r cast-t8 cast-t9 returns)
+split-of-spec = tie.close (tie.spec floor-of-requires cast-t4 mul-t5 sub-t6 returns)

@@ -50,11 +50,11 @@ mul-e c = let s = c .before .before .before in omega (arith, found-in _ _ _ _ _ 
 shared-slice-read-e : tie.Need-shared-slice-read-e
 shared-slice-read-e c = let s = c .before .before .before .before in found-in _ _ _ _ _ (s .pre .0) (s .args .i) (place (c .before))
 
-cast-result : tie.Need-cast-result
-cast-result c = omega (arith, c .shared-slice-known2 .given (c .before .search .result))
-
 add-result : tie.Need-add-result
 add-result c = search needs
+
+cast-result : tie.Need-cast-result
+cast-result c = let s = c .before .before .before .before in omega (arith, s .pre .1, s .pre .0 .sparse .room, s .pre .0 .C-most)
 
 returns : tie.Need-returns
 returns c =
@@ -74,6 +74,6 @@ finds-spec =
     search-requires
     mul-e
     shared-slice-read-e
-    cast-result
     add-result
+    cast-result
     returns)

@@ -4,18 +4,18 @@ use native.Mathlib.Omega.{arith}
 use mathlib.Core.Path.{_≡_, refl, subst, _∙_}
 use Prim.Native.Nat.{ℕ, _≤_, _<_, _-_}
 use lib.ListN.{length}
-use Rattle.blur.proofs.Moving.{can-move, moved-is, movedAt, neighbour-tab, Filled, filled-none, filled-more, filled-take}
-use Rattle.blur.proofs.step.neighbour.Statement.{statement}
-use Rattle.blur.proofs.step.neighbour.Tie as tie
+use Rattle.blur.proofs.Moving.{can-move, moved-is, movedAt, neighbour-tab, Filled, filled-none, filled-more, filled-all}
+use Rattle.blur.proofs.step.put_neighbour.Statement.{statement}
+use Rattle.blur.proofs.step.put_neighbour.Tie as tie
 
 abbrev Inv-loop : tie.InvT-loop
-Inv-loop key k plus d coords₀ i₀ coords i = (i ≤ d) × (d ≡ length key) × Filled i (movedAt plus d k key) coords
+Inv-loop key k plus neighbour₀ d i₀ neighbour i = (i ≤ d) × (d ≡ length key) × Filled d i (movedAt plus d k key) neighbour
 
 abbrev μ-loop : tie.MeasureT-loop
-μ-loop key k plus d coords₀ i₀ coords i = d - i
+μ-loop key k plus neighbour₀ d i₀ neighbour i = d - i
 
 loop-holds : tie.Need-loop-holds Inv-loop μ-loop
-loop-holds c = (search needs, refl, filled-none _)
+loop-holds c = (search needs, refl, filled-none _ _ (c .pre .1))
 
 mul-x : tie.Need-mul-x Inv-loop μ-loop
 mul-x c = search needs
@@ -29,13 +29,13 @@ step-at-requires c κs = search needs
 moved-requires : tie.Need-moved-requires Inv-loop μ-loop
 moved-requires c κs =
     let x = c .before .before .before in
-    can-move _ (x .before .pre) (x .before .args .k) (x .loop .i) (search needs) (c .step-at .ensures)
+    can-move _ (x .before .pre .0) (x .before .args .k) (x .loop .i) (search needs) (c .step-at .ensures)
 
-mul-coords : tie.Need-mul-coords Inv-loop μ-loop
-mul-coords c = search needs
+mul-t9 : tie.Need-mul-t9 Inv-loop μ-loop
+mul-t9 c = search needs
 
-array-set-from-coords : tie.Need-array-set-from-coords Inv-loop μ-loop
-array-set-from-coords c = search needs
+slice-set-from-neighbour : tie.Need-slice-set-from-neighbour Inv-loop μ-loop
+slice-set-from-neighbour c = search needs
 
 add-i : tie.Need-add-i Inv-loop μ-loop
 add-i c = search needs
@@ -46,13 +46,16 @@ loop-less c = search needs
 loop-again : tie.Need-loop-again Inv-loop μ-loop
 loop-again c =
     let x = c .before .before .before .before in
-    let p = x .before .pre in
+    let p = x .before .pre .0 in
     let q : x .loop .i < length (x .before .args .key .now) = search needs in (
       search needs,
       refl,
-      filled-more (x .loop .i) (movedAt (x .before .args .plus) (length (x .before .args .key .now)) (x .before .args .k) (x .before .args .key .now)) (omega (arith, p .few)) (x .loop .inv .2)
+      filled-more _ (x .loop .i) (movedAt (x .before .args .plus) (length (x .before .args .key .now)) (x .before .args .k) (x .before .args .key .now)) (search needs) (x .loop .inv .2)
           (moved-is _ p (x .before .args .k) (x .loop .i) q (c .before .step-at .ensures) (x .before .args .plus) (record { sfits = c .moved .ok }) (c .moved .ensures)),
     )
+
+same-length : tie.Need-same-length Inv-loop μ-loop
+same-length c = search needs
 
 returns : tie.Need-returns Inv-loop μ-loop
 returns c =
@@ -61,10 +64,10 @@ returns c =
     let y = s .args .key .now in
     let f = movedAt (s .args .plus) (length y) (s .args .k) y in
     let e : l .i ≡ length y = omega arith in
-    filled-take (length y) f (s .pre .few) (subst (λ (n : ℕ). Filled n f (l .coords)) e (l .inv .2)) ∙ neighbour-tab (s .args .plus) (length y) (s .args .k) y
+    filled-all (length y) f (subst (λ (n : ℕ). Filled (length y) n f (l .neighbour)) e (l .inv .2)) ∙ neighbour-tab (s .args .plus) (length y) (s .args .k) y
 
-pub neighbour-spec : {M : Type 1} → statement M
-neighbour-spec =
+pub put-neighbour-spec : {M : Type 1} → statement M
+put-neighbour-spec =
     tie.close
     (tie.spec
     Inv-loop
@@ -74,9 +77,10 @@ neighbour-spec =
     shared-slice-copy-out-x
     step-at-requires
     moved-requires
-    mul-coords
-    array-set-from-coords
+    mul-t9
+    slice-set-from-neighbour
     add-i
     loop-less
     loop-again
+    same-length
     returns)
