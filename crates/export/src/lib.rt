@@ -1,0 +1,258 @@
+// The calls for C and Rust: `extern "C"` functions over plain numbers and slices. A slice passes as a
+// pointer and a length. A head passes as its five numbers, by value where a call only reads it and
+// each behind a pointer where the call hands a head back. The contracts are the calls' own, of the
+// heads that the five numbers make. Nothing proves that a caller in another language passes what
+// these declarations say: c/vimrothi.h has what it owes.
+ghost use Rattle.table.specs.Table.{Settings};
+ghost use Rattle.table.specs.Calls.{lent, freshRefusal, afterFresh, enter, mergeRefusal, afterMerge};
+ghost use Rattle.table.specs.Heads.{settings, table, Answers};
+ghost use Rattle.enter.specs.Entering.{Enters};
+ghost use Rattle.listing.specs.Listing.{Lists};
+ghost use Rattle.filter.specs.Filter.{Lent, Filters};
+ghost use Rattle.log.specs.Loading.{Loads, load};
+ghost use Rattle.report.specs.Report.{Reports};
+ghost use Rattle.export.specs.Numbers.{headOf};
+use table::Head;
+
+// Makes a fresh table of these settings. The readings and points told are 0, refused or not, whatever
+// they were.
+#[no_mangle]
+pub extern "C" fn vimrothi_fresh(
+    d: &mut usize,
+    fineness: &mut u32,
+    capacity: &mut usize,
+    readings: &mut usize,
+    points: &mut usize,
+    keys: &mut [i32],
+    sums: &mut [i64],
+    index: &mut [u16],
+) -> u8
+    ensures { λ r. ⌜
+        (let c : Settings = record { d = now (d .entry); S = now (fineness .entry); C = now (capacity .entry) } in
+        let t = lent (now (keys .entry)) (now (sums .entry)) (now (index .entry)) in
+        let after = headOf (now (d .exit)) (now (fineness .exit)) (now (capacity .exit)) (now (readings .exit)) (now (points .exit)) in
+        Answers c (freshRefusal c t) (afterFresh c t) r after (now (keys .exit)) (now (sums .exit)) (now (index .exit)))
+        ⌝ }
+{
+    let made = table::fresh::fresh(*d, *fineness, *capacity, keys, sums, index);
+    *d = made.head.d;
+    *fineness = made.head.fineness;
+    *capacity = made.head.capacity;
+    *readings = made.head.readings;
+    *points = made.head.points;
+    made.number
+}
+
+// Enters a list of readings, and tells how many were taken.
+#[no_mangle]
+pub extern "C" fn vimrothi_enter(
+    d: &mut usize,
+    fineness: &mut u32,
+    capacity: &mut usize,
+    readings: &mut usize,
+    points: &mut usize,
+    keys: &mut [i32],
+    sums: &mut [i64],
+    index: &mut [u16],
+    list: &[i32],
+    taken: &mut usize,
+) -> u8
+    ensures { λ r. ⌜
+        (let head = headOf (now (d .entry)) (now (fineness .entry)) (now (capacity .entry)) (now (readings .entry)) (now (points .entry)) in
+        let c = settings head in
+        let t = table head (now (keys .entry)) (now (sums .entry)) (now (index .entry)) in
+        let after = headOf (now (d .exit)) (now (fineness .exit)) (now (capacity .exit)) (now (readings .exit)) (now (points .exit)) in
+        Enters c (enter c t (now (list .entry))) (now (taken .exit)) r after (now (keys .exit)) (now (sums .exit)) (now (index .exit)))
+        ⌝ }
+{
+    let head = Head {
+        d: *d,
+        fineness: *fineness,
+        capacity: *capacity,
+        readings: *readings,
+        points: *points,
+    };
+    let entered = enter::enter(head, keys, sums, index, list);
+    *d = entered.head.d;
+    *fineness = entered.head.fineness;
+    *capacity = entered.head.capacity;
+    *readings = entered.head.readings;
+    *points = entered.head.points;
+    *taken = entered.taken;
+    entered.number
+}
+
+// Adds a source table, which is only read, to a target table.
+#[no_mangle]
+pub extern "C" fn vimrothi_merge(
+    d: &mut usize,
+    fineness: &mut u32,
+    capacity: &mut usize,
+    readings: &mut usize,
+    points: &mut usize,
+    keys: &mut [i32],
+    sums: &mut [i64],
+    index: &mut [u16],
+    source_d: usize,
+    source_fineness: u32,
+    source_capacity: usize,
+    source_readings: usize,
+    source_points: usize,
+    source_keys: &[i32],
+    source_sums: &[i64],
+    source_index: &[u16],
+) -> u8
+    ensures { λ r. ⌜
+        (let head = headOf (now (d .entry)) (now (fineness .entry)) (now (capacity .entry)) (now (readings .entry)) (now (points .entry)) in
+        let source = headOf «source_d» «source_fineness» «source_capacity» «source_readings» «source_points» in
+        let c = settings head in
+        let b = settings source in
+        let t = table head (now (keys .entry)) (now (sums .entry)) (now (index .entry)) in
+        let s = table source (now («source_keys» .entry)) (now («source_sums» .entry)) (now («source_index» .entry)) in
+        let after = headOf (now (d .exit)) (now (fineness .exit)) (now (capacity .exit)) (now (readings .exit)) (now (points .exit)) in
+        Answers c (mergeRefusal c t b s) (afterMerge c t b s) r after (now (keys .exit)) (now (sums .exit)) (now (index .exit)))
+        ⌝ }
+{
+    let head = Head {
+        d: *d,
+        fineness: *fineness,
+        capacity: *capacity,
+        readings: *readings,
+        points: *points,
+    };
+    let source = Head {
+        d: source_d,
+        fineness: source_fineness,
+        capacity: source_capacity,
+        readings: source_readings,
+        points: source_points,
+    };
+    let merged = merge::merge(
+        head,
+        keys,
+        sums,
+        index,
+        source,
+        source_keys,
+        source_sums,
+        source_index,
+    );
+    *d = merged.head.d;
+    *fineness = merged.head.fineness;
+    *capacity = merged.head.capacity;
+    *readings = merged.head.readings;
+    *points = merged.head.points;
+    merged.number
+}
+
+// Lists a table's points in the order of their keys.
+#[no_mangle]
+pub extern "C" fn vimrothi_list(
+    d: usize,
+    fineness: u32,
+    capacity: usize,
+    readings: usize,
+    points: usize,
+    keys: &[i32],
+    sums: &[i64],
+    index: &[u16],
+    list: &mut [u16],
+) -> u8
+    ensures { λ r. ⌜
+        (let head = headOf d fineness capacity readings points in
+        let t = table head (now (keys .entry)) (now (sums .entry)) (now (index .entry)) in
+        Lists (settings head) t (now (list .entry)) r (now (list .exit)))
+        ⌝ }
+{
+    let head = Head {
+        d,
+        fineness,
+        capacity,
+        readings,
+        points,
+    };
+    listing::list(head, keys, sums, index, list)
+}
+
+// Answers queries over a table, which is only read.
+#[no_mangle]
+pub extern "C" fn vimrothi_filter(
+    d: usize,
+    fineness: u32,
+    capacity: usize,
+    readings: usize,
+    points: usize,
+    keys: &[i32],
+    sums: &[i64],
+    index: &[u16],
+    first: &mut [i64],
+    second: &mut [i64],
+    queries: &[i32],
+    values: &mut [i32],
+    codes: &mut [u8],
+) -> u8
+    ensures { λ r. ⌜
+        (let head = headOf d fineness capacity readings points in
+        let t = table head (now (keys .entry)) (now (sums .entry)) (now (index .entry)) in
+        let l : Lent = record { first = now (first .entry); second = now (second .entry); values = now (values .entry); codes = now (codes .entry) } in
+        Filters (settings head) t (now (queries .entry)) l r (now (first .exit)) (now (second .exit)) (now (values .exit)) (now (codes .exit)))
+        ⌝ }
+{
+    let head = Head {
+        d,
+        fineness,
+        capacity,
+        readings,
+        points,
+    };
+    filter::filter(
+        head,
+        keys,
+        sums,
+        index,
+        first,
+        second,
+        queries,
+        values,
+        codes,
+    )
+}
+
+// Loads a log, and tells its length or the offset that it was refused at. What the head was before is
+// not read.
+#[no_mangle]
+pub extern "C" fn vimrothi_load(
+    log: &[u8],
+    d: &mut usize,
+    fineness: &mut u32,
+    capacity: &mut usize,
+    readings: &mut usize,
+    points: &mut usize,
+    keys: &mut [i32],
+    sums: &mut [i64],
+    index: &mut [u16],
+    offset: &mut usize,
+) -> u8
+    ensures { λ r. ⌜
+        (let t = lent (now (keys .entry)) (now (sums .entry)) (now (index .entry)) in
+        let after = headOf (now (d .exit)) (now (fineness .exit)) (now (capacity .exit)) (now (readings .exit)) (now (points .exit)) in
+        Loads (load (now (log .entry)) t) r (now (offset .exit)) after (now (keys .exit)) (now (sums .exit)) (now (index .exit)))
+        ⌝ }
+{
+    let loaded = log::load(log, keys, sums, index);
+    *d = loaded.head.d;
+    *fineness = loaded.head.fineness;
+    *capacity = loaded.head.capacity;
+    *readings = loaded.head.readings;
+    *points = loaded.head.points;
+    *offset = loaded.offset;
+    loaded.number
+}
+
+// Writes what dyemap prints for a log, and answers how many bytes that is.
+#[no_mangle]
+pub extern "C" fn vimrothi_report(log: &[u8], out: &mut [u8]) -> usize
+    ensures { λ r. ⌜ Reports (now (log .entry)) (now (out .entry)) r (now (out .exit)) ⌝ }
+{
+    report::report(log, out)
+}
