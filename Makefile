@@ -1,6 +1,7 @@
 # make demo: proves every crate, then runs dyemap on the worked log of document 01.
 # make test: the gate.
-.PHONY: demo test
+# make bench: times the calls against a plain Rust version and a hash map.
+.PHONY: demo test bench
 
 demo:
 	rt check
@@ -9,3 +10,7 @@ demo:
 
 test:
 	.ci/run
+
+bench:
+	rt staticlib export
+	cd rust && cargo run --release --offline --locked --package bench

@@ -1,0 +1,9 @@
+//! Tests of the calls as a user of the crate meets them: what they answer, and what they leave in lent memory.
+
+mod errors_that_look_right;
+mod lent_memory;
+mod log_refusals;
+mod order;
+mod refusals;
+mod table;
+mod worked_log;

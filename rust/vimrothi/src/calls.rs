@@ -1,0 +1,304 @@
+//! Document 01's calls over lent slices, as safe functions. Each does its work or refuses with a number, for every
+//! input: there is nothing to test before a call. [`Table`](crate::Table) is made of them, with memory of its own.
+//!
+//! A table here is a [`Head`] by value and three lent slices: keys (d·C numbers), sums (2·C: mass, then value sum) and
+//! index (2·C). Numbers are tested in the order in which each call names them, and the first that is met is answered.
+//! A call refused as a whole hands back the head that it was given and changes no lent memory.
+//! [`words`](crate::words) has the words of each number.
+//!
+//! ```
+//! use vimrothi::calls;
+//!
+//! let (mut keys, mut sums, mut index) = ([0; 8], [0; 16], [0; 16]);
+//! let made = calls::fresh(1, 2, 8, &mut keys, &mut sums, &mut index);
+//! assert_eq!(made.number, 0);
+//!
+//! let entered = calls::enter(made.head, &mut keys, &mut sums, &mut index, &[3, -3, 10, 2, -2, 4]);
+//! assert_eq!((entered.taken, entered.number), (2, 0));
+//! assert_eq!(entered.head.points, 2);
+//! // Points are stored in the order in which they were met: here (2, -2), which leaves 0, before (1, -1).
+//! assert_eq!(keys[..2], [2, 1]);
+//! assert_eq!(sums[..4], [2, 20, 6, 36]);
+//! ```
+
+// Why every `unsafe` below is sound. The library was compiled from functions whose parameters are references and
+// slices. Each pointer passed here comes from a Rust reference or slice that lives through the call, is not null and
+// is aligned, and each length is that of its own slice. What the library may write comes from a `&mut`, or from a
+// local variable of the call (the head's five fields, `taken`, `offset`), so nothing else reaches it meanwhile. The
+// library proves that it stays inside what is lent, whatever the numbers are, and it keeps no pointer.
+
+use crate::declared;
+
+/// A table's head: the settings, and the numbers of readings and of points.
+#[derive(Clone, Copy, Debug, Default, PartialEq, Eq)]
+pub struct Head {
+    /// d, 1 to 5.
+    pub d: usize,
+    /// S, 1 to 64.
+    pub fineness: u32,
+    /// C, 1 to 8,192.
+    pub capacity: usize,
+    /// n, at most 4,096.
+    pub readings: usize,
+    /// m, at most C.
+    pub points: usize,
+}
+
+/// A number, 0 where the call was done, and the head that is handed back.
+#[derive(Clone, Copy, Debug, PartialEq, Eq)]
+pub struct Answer {
+    /// 0, or the number of the refusal.
+    pub number: u8,
+    /// The new head; refused, the head as it was given.
+    pub head: Head,
+}
+
+/// How many readings were taken, the number, 0 where all were, and the new head.
+#[derive(Clone, Copy, Debug, PartialEq, Eq)]
+pub struct Entered {
+    /// The number of readings taken, and so the place of the refused one in the list.
+    pub taken: usize,
+    /// 0, or the number of the refusal.
+    pub number: u8,
+    /// The head with the readings that were taken.
+    pub head: Head,
+}
+
+/// The number, the offset that it is told at, and the head. A log taken whole has 0 and its length.
+#[derive(Clone, Copy, Debug, PartialEq, Eq)]
+pub struct Loaded {
+    /// 0, or the number of the refusal.
+    pub number: u8,
+    /// The offset of the refused item's kind byte, or the length of a log taken whole.
+    pub offset: usize,
+    /// The head with the readings before the offset; all 0 where no settings were accepted or the slices were refused.
+    pub head: Head,
+}
+
+/// Makes a fresh table of dimension d, fineness S and capacity C in the three lent slices.
+///
+/// Refuses with 1 and 2. Done, the head has no readings and no points, and the three slices are filled with 0. Refused,
+/// the slices are unchanged, and the head has d, S and C as given, with 0 readings and 0 points.
+pub fn fresh(
+    d: usize,
+    fineness: u32,
+    capacity: usize,
+    keys: &mut [i32],
+    sums: &mut [i64],
+    index: &mut [u16],
+) -> Answer {
+    let mut head = Head {
+        d,
+        fineness,
+        capacity,
+        readings: 0,
+        points: 0,
+    };
+    // SAFETY: pointers and lengths of the slices lent to this function, and of its own `head`.
+    let number = unsafe {
+        declared::vimrothi_fresh(
+            &mut head.d,
+            &mut head.fineness,
+            &mut head.capacity,
+            &mut head.readings,
+            &mut head.points,
+            keys.as_mut_ptr(),
+            keys.len(),
+            sums.as_mut_ptr(),
+            sums.len(),
+            index.as_mut_ptr(),
+            index.len(),
+        )
+    };
+    Answer { number, head }
+}
+
+/// Enters a list of readings into a table. Each is d + 1 coordinates and then the value.
+///
+/// Refuses with 1, 2 and 3 as a whole, an empty list too: nothing is taken, and head and memory are as they were. Then
+/// each reading is refused with 4, 5, 6, 7 or 8, or taken. It stops at the first refused reading. The table holds those
+/// taken and nothing of the refused one; what stood in keys and sums past the last point stays there.
+pub fn enter(mut head: Head, keys: &mut [i32], sums: &mut [i64], index: &mut [u16], list: &[i32]) -> Entered {
+    let mut taken = 0;
+    // SAFETY: pointers and lengths of the slices lent to this function, and of its own `head` and `taken`.
+    let number = unsafe {
+        declared::vimrothi_enter(
+            &mut head.d,
+            &mut head.fineness,
+            &mut head.capacity,
+            &mut head.readings,
+            &mut head.points,
+            keys.as_mut_ptr(),
+            keys.len(),
+            sums.as_mut_ptr(),
+            sums.len(),
+            index.as_mut_ptr(),
+            index.len(),
+            list.as_ptr(),
+            list.len(),
+            &mut taken,
+        )
+    };
+    Entered { taken, number, head }
+}
+
+/// Adds a source table, which is only read, to a target table. Capacities may differ.
+///
+/// Refuses with 1, 2 and 3, for each the target before the source, then 9, 7 and 8: all or nothing. Done, each of the
+/// source's pairs is added to the target's, new points are appended in the source's order, and the readings are added
+/// up. Refused, the target's head and memory are as they were.
+#[allow(clippy::too_many_arguments)]
+pub fn merge(
+    mut head: Head,
+    keys: &mut [i32],
+    sums: &mut [i64],
+    index: &mut [u16],
+    source: Head,
+    source_keys: &[i32],
+    source_sums: &[i64],
+    source_index: &[u16],
+) -> Answer {
+    // SAFETY: pointers and lengths of the slices lent to this function, and of its own `head`.
+    let number = unsafe {
+        declared::vimrothi_merge(
+            &mut head.d,
+            &mut head.fineness,
+            &mut head.capacity,
+            &mut head.readings,
+            &mut head.points,
+            keys.as_mut_ptr(),
+            keys.len(),
+            sums.as_mut_ptr(),
+            sums.len(),
+            index.as_mut_ptr(),
+            index.len(),
+            source.d,
+            source.fineness,
+            source.capacity,
+            source.readings,
+            source.points,
+            source_keys.as_ptr(),
+            source_keys.len(),
+            source_sums.as_ptr(),
+            source_sums.len(),
+            source_index.as_ptr(),
+            source_index.len(),
+        )
+    };
+    Answer { number, head }
+}
+
+/// Lists the points of a table, which is only read, in a lent list of C numbers.
+///
+/// Answers 0, or refuses with 1, 2 and 3. Done, the list has the point numbers, from 0, ordered by coordinate 0, then 1
+/// and so on, ascending, and 0 in the rest. Refused, the list is unchanged.
+pub fn list(head: Head, keys: &[i32], sums: &[i64], index: &[u16], list: &mut [u16]) -> u8 {
+    // SAFETY: pointers and lengths of the slices lent to this function.
+    unsafe {
+        declared::vimrothi_list(
+            head.d,
+            head.fineness,
+            head.capacity,
+            head.readings,
+            head.points,
+            keys.as_ptr(),
+            keys.len(),
+            sums.as_ptr(),
+            sums.len(),
+            index.as_ptr(),
+            index.len(),
+            list.as_mut_ptr(),
+            list.len(),
+        )
+    }
+}
+
+/// Answers queries of d + 1 coordinates each over a table, which is only read. It takes two work sheets of 2·C numbers
+/// and exactly one value and one code for each query.
+///
+/// Answers 0, or refuses with 1, 2 and 3 as a whole, without queries too: sheets, values and codes are then unchanged.
+/// Done, each query has its code, 0, 4, 5, 10 or 11, and its value, 0 beside any code but 0. (11 is never met.) The
+/// first sheet starts with the blurred pairs of the points in stored order; every other number of both sheets is 0.
+#[allow(clippy::too_many_arguments)]
+pub fn filter(
+    head: Head,
+    keys: &[i32],
+    sums: &[i64],
+    index: &[u16],
+    first: &mut [i64],
+    second: &mut [i64],
+    queries: &[i32],
+    values: &mut [i32],
+    codes: &mut [u8],
+) -> u8 {
+    // SAFETY: pointers and lengths of the slices lent to this function.
+    unsafe {
+        declared::vimrothi_filter(
+            head.d,
+            head.fineness,
+            head.capacity,
+            head.readings,
+            head.points,
+            keys.as_ptr(),
+            keys.len(),
+            sums.as_ptr(),
+            sums.len(),
+            index.as_ptr(),
+            index.len(),
+            first.as_mut_ptr(),
+            first.len(),
+            second.as_mut_ptr(),
+            second.len(),
+            queries.as_ptr(),
+            queries.len(),
+            values.as_mut_ptr(),
+            values.len(),
+            codes.as_mut_ptr(),
+            codes.len(),
+        )
+    }
+}
+
+/// Loads a log into lent slices of the lengths that its settings give: a fresh table with the log's readings entered in
+/// order. Queries are passed over.
+///
+/// Each item is refused with 12, 13, 14 or 15, then the settings with 1 and 2, a reading with 4 to 8. It stops at the
+/// first refusal and tells the offset of that item's kind byte. The table then holds exactly the readings before that
+/// place. Where no settings were accepted or the slices were refused, they are unchanged and the head is all 0. A log
+/// taken whole answers 0 and its length.
+pub fn load(log: &[u8], keys: &mut [i32], sums: &mut [i64], index: &mut [u16]) -> Loaded {
+    let mut head = Head::default();
+    let mut offset = 0;
+    // SAFETY: pointers and lengths of the slices lent to this function, and of its own `head` and `offset`.
+    let number = unsafe {
+        declared::vimrothi_load(
+            log.as_ptr(),
+            log.len(),
+            &mut head.d,
+            &mut head.fineness,
+            &mut head.capacity,
+            &mut head.readings,
+            &mut head.points,
+            keys.as_mut_ptr(),
+            keys.len(),
+            sums.as_mut_ptr(),
+            sums.len(),
+            index.as_mut_ptr(),
+            index.len(),
+            &mut offset,
+        )
+    };
+    Loaded { number, offset, head }
+}
+
+/// A buffer of so many bytes suffices for the report of every log.
+pub const REPORT_ROOM: usize = 200_000;
+
+/// Writes what `dyemap` prints for a log at the start of the buffer, and answers how many bytes that is.
+///
+/// Refusals are printed, as a line `REFUSED` with number and offset; 16 is among them. It takes a buffer of at least
+/// [`REPORT_ROOM`] bytes. A shorter one is unchanged, and the answer is 0, which no report's length is.
+pub fn report(log: &[u8], out: &mut [u8]) -> usize {
+    // SAFETY: pointers and lengths of the slices lent to this function.
+    unsafe { declared::vimrothi_report(log.as_ptr(), log.len(), out.as_mut_ptr(), out.len()) }
+}

@@ -1,0 +1,112 @@
+//! Loading a log into a table of the log's own settings. A log may be refused half-way, and the readings before that
+//! place are worth keeping, so the error of a load carries the table that holds them.
+
+use std::error::Error;
+use std::fmt;
+
+use crate::calls;
+use crate::refusal::WRONG_LENGTH;
+use crate::table::{memory, Table};
+use crate::{Place, Refusal};
+
+impl Table {
+    /// Loads a log: a fresh table of the log's settings, with the log's readings entered in order.
+    ///
+    /// Queries of the log are passed over; [`report()`](crate::report()) answers them. A log has any length, and up to
+    /// 8,192 points.
+    ///
+    /// # Errors
+    ///
+    /// Loading stops at the first refusal: 12, 13, 14 or 15 for an item, 1 for the settings, 4 to 8 for a reading.
+    /// [`LoadRefusal`] has the number, the offset and the table with the readings before that place.
+    ///
+    /// ```
+    /// use vimrothi::Table;
+    ///
+    /// let log = b"\x01\x01\x02\x08\x00\x11\x03\x00\x00\x00\xFD\xFF\xFF\xFF\x0A\x00\x00\x00";
+    /// assert_eq!(Table::load(log)?.readings(), 1);
+    ///
+    /// // The first reading is whole and a second one has begun.
+    /// let cut = [&log[..], b"\x11\x02\x00"].concat();
+    /// let stopped = Table::load(&cut).unwrap_err();
+    /// assert_eq!((stopped.number(), stopped.offset()), (15, 18));
+    /// assert_eq!(stopped.into_table().unwrap().readings(), 1);
+    /// # Ok::<(), vimrothi::LoadRefusal>(())
+    /// ```
+    pub fn load(log: &[u8]) -> Result<Table, LoadRefusal> {
+        // With no memory lent the call judges the settings alone: where they are good, it answers 2.
+        let judged = calls::load(log, &mut [], &mut [], &mut []);
+        if judged.number != WRONG_LENGTH {
+            return Err(LoadRefusal::new(judged.number, judged.offset, None));
+        }
+        // So the settings are the log's first five bytes: the kind, d, S, and C as two bytes.
+        let d = usize::from(log[1]);
+        let capacity = usize::from(u16::from_le_bytes([log[3], log[4]]));
+        let (mut keys, mut sums, mut index) = memory(d, capacity);
+        let loaded = calls::load(log, &mut keys, &mut sums, &mut index);
+        let table = Table::holding(loaded.head, keys, sums, index);
+        match loaded.number {
+            0 => Ok(table),
+            number => Err(LoadRefusal::new(number, loaded.offset, Some(table))),
+        }
+    }
+}
+
+/// Why and where a log was refused, with the table of the readings before that place.
+///
+/// There is a table wherever the log's settings were accepted, even if it holds no reading yet. The bytes of the log
+/// up to [`offset`](LoadRefusal::offset) are then whole items, and they alone load into the same table, unrefused.
+#[derive(Clone, Debug)]
+pub struct LoadRefusal {
+    number: u8,
+    offset: usize,
+    // Boxed, so that a result of a load is not much larger than a table.
+    table: Option<Box<Table>>,
+}
+
+impl LoadRefusal {
+    fn new(number: u8, offset: usize, table: Option<Table>) -> LoadRefusal {
+        let table = table.map(Box::new);
+        LoadRefusal { number, offset, table }
+    }
+
+    /// Document 01's number.
+    pub fn number(&self) -> u8 {
+        self.number
+    }
+
+    /// The offset of the refused item's kind byte.
+    pub fn offset(&self) -> usize {
+        self.offset
+    }
+
+    /// The refusal without the table. Its place is [`Place::Byte`].
+    pub fn refusal(&self) -> Refusal {
+        Refusal::new(self.number, Place::Byte(self.offset))
+    }
+
+    /// The table with the readings before the offset; nothing where no settings were accepted.
+    pub fn table(&self) -> Option<&Table> {
+        self.table.as_deref()
+    }
+
+    /// The same table, to be kept.
+    pub fn into_table(self) -> Option<Table> {
+        self.table.map(|table| *table)
+    }
+}
+
+impl fmt::Display for LoadRefusal {
+    fn fmt(&self, f: &mut fmt::Formatter<'_>) -> fmt::Result {
+        self.refusal().fmt(f)
+    }
+}
+
+impl Error for LoadRefusal {}
+
+/// Lets `?` turn the refusal of a load into a [`Refusal`], where the table is not wanted.
+impl From<LoadRefusal> for Refusal {
+    fn from(stopped: LoadRefusal) -> Refusal {
+        stopped.refusal()
+    }
+}
