@@ -74,7 +74,7 @@ pub record Near (w : ℕ) (x : List ℤ) (n : ℕ) : Type 0 where
   pub few : n ≤ 6
   pub near : (i : ℕ) → i < n → Abs≤ (at x i) farthest
 
--- the splits of the first n coordinates in them
+-- two such lists with the splits of the first n coordinates
 pub record ResidualOf (w n : ℕ) (x floors rests : List ℤ) : Type 0 where
   pub six : Six floors rests
   pub floor-at : (i : ℕ) → i < n → at floors i ≡ floor (at x i) w
@@ -104,7 +104,7 @@ pub record CornerIs (w n : ℕ) (x : ℕ → ℤ) (j : ℕ) (point : List ℤ) (
   pub slot-is : slot ≡ remainder (negℤ (sum n (λ i. floor (x i -ℤ x j) w))) n
   pub weight-is : weight ≡ w - peak n (λ i. remainder (x i -ℤ x j) w)
 
--- and as the numbers that its point is made of
+-- the same corner, told by the numbers that its point is made of
 pub record CornerFrom (w n : ℕ) (x : ℕ → ℤ) (j : ℕ) (z : List ℤ) (total : ℤ) (slot weight : ℕ) : Type 0 where
   pub corner : CornerIs w n x j (pointOf n z total) slot weight
   pub span : Span n z total
