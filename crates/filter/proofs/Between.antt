@@ -27,22 +27,22 @@ use Rattle.filter.specs.Theorems.{ValuesBetween, FreshBetween, EnterBetw
 use Rattle.filter.proofs.Answers.{mapped}
 
 -- of a mass and a value sum: they are both 0, or added up, or a weight and the weight times a value
-abbrev Bounded : ℤ → ℤ → ℤ × ℤ → Type 0
+abbrev pub Bounded : ℤ → ℤ → ℤ × ℤ → Type 0
 Bounded lo hi p = ((lo *ℤ p .0) ≤ℤ p .1) × (p .1 ≤ℤ (hi *ℤ p .0))
 
-bounded-zero : (lo hi : ℤ) → Bounded lo hi (pos 0, pos 0)
+pub bounded-zero : (lo hi : ℤ) → Bounded lo hi (pos 0, pos 0)
 bounded-zero lo hi = (rw (*ℤ-zero lo) (≤ℤ-refl (pos 0)), rw (*ℤ-zero hi) (≤ℤ-refl (pos 0)))
 
-bounded-plus : (lo hi : ℤ) (p q : ℤ × ℤ) → Bounded lo hi p → Bounded lo hi q → Bounded lo hi (plus p q)
+pub bounded-plus : (lo hi : ℤ) (p q : ℤ × ℤ) → Bounded lo hi p → Bounded lo hi q → Bounded lo hi (plus p q)
 bounded-plus lo hi p q (a, b) (a′, b′) = (
   rw (*-dist-l lo (p .0) (q .0)) (add-mono a a′),
   rw (*-dist-l hi (p .0) (q .0)) (add-mono b b′),
 )
 
-bounded-share : (lo hi : ℤ) (w : ℕ) (v : ℤ) → Within lo hi v → Bounded lo hi (pos w, pos w *ℤ v)
+pub bounded-share : (lo hi : ℤ) (w : ℕ) (v : ℤ) → Within lo hi v → Bounded lo hi (pos w, pos w *ℤ v)
 bounded-share lo hi w v b = (rw (*-comm lo (pos w)) (mul-mono w (b .low)), rw (*-comm hi (pos w)) (mul-mono w (b .high)))
 
-all-between : (lo hi : ℤ) (c : Settings) (t : Table) → ((y : List ℤ) → Bounded lo hi (held c t y)) → ValuesBetween lo hi c t
+pub all-between : (lo hi : ℤ) (c : Settings) (t : Table) → ((y : List ℤ) → Bounded lo hi (held c t y)) → ValuesBetween lo hi c t
 all-between lo hi c t h = record { low = λ y. h y .0; high = λ y. h y .1 }
 
 pub fresh-between : FreshBetween

@@ -29,27 +29,17 @@ use Rattle.table.specs.Table.{Settings, Table, key, mass, held}
 use Rattle.table.specs.Inner.{Fine}
 use Rattle.table.specs.Theorems.{Usable}
 use Rattle.table.proofs.Soundness.{to-fine}
-use Rattle.blur.specs.Blur.{values, massAfter, valueAfter, blurredMass, blurredValue}
+use Rattle.blur.specs.Blur.{massAfter, valueAfter, blurredMass, blurredValue}
 use Rattle.blur.specs.Inner.{most-blurred}
 use Rattle.blur.specs.Theorems.{Between}
 use Rattle.blur.proofs.Theorems.{mass-off, value-off, after-between, blur-of-map}
 use Rattle.filter.specs.Answer.{weightOf, weighted, meets, codeBy, beside, valueBy, code, answer}
 use Rattle.filter.specs.Inner.{ones, weighedOver}
-use Rattle.filter.specs.Theorems.{Coded, CodedRight, NeverEleven, AnswerBetween, AnswersFit, AnswerOfMap, FiltersOnce}
+use Rattle.filter.specs.Theorems.{Coded, CodedRight, NeverEleven, AnswerBetween, AnswersFit, AnswerOfMap}
 use Rattle.filter.proofs.Weighing.{weighted-over, meets-ones, weights-light}
 use Rattle.filter.proofs.Bounds.{weighed-low, weighed-high, weighed-small}
 use Rattle.filter.proofs.Answers.{blurred-small, mapped, blurred-some}
 use Rattle.filter.proofs.Coding.{by-position, by-points, judged-small, met-one, met-none}
-
--- ---- two outcomes of one call are equal
-pub filters-once : FiltersOnce
-filters-once c t queries l number number′ first first′ second second′ values values′ codes codes′ A B = (
-  A .number-is ∙ sym (B .number-is),
-  A .first-is ∙ sym (B .first-is),
-  A .second-is ∙ sym (B .second-is),
-  A .values-are ∙ sym (B .values-are),
-  A .codes-are ∙ sym (B .codes-are),
-)
 
 -- ---- the mass sum of a query
 module _ (c : Settings) (t : Table) (q : List ℤ) where
@@ -75,7 +65,7 @@ module _ (c : Settings) (t : Table) (q : List ℤ) where
           omega (arith, w, le-in (pos (weightOf c t q i)) (term i) (heavy i l), eq-in (pos 0) (term i) e)
 
   -- so it is with the blurred masses of a sound table
-  mass-sum-above : Usable c t → meets c t q ≡ true → pos 1 ≤ℤ weighted c t (blurredMass c t) q
+  pub mass-sum-above : Usable c t → meets c t q ≡ true → pos 1 ≤ℤ weighted c t (blurredMass c t) q
   mass-sum-above U = weighted-above (blurredMass c t) (blurred-some c t (to-fine c t U))
 
 -- ---- the code of a query on a sound table
@@ -142,7 +132,7 @@ module _ (c : Settings) (t : Table) (U : Usable c t) (q : List ℤ) where
   value-sum = weighted-over c t (mapped c t (to-fine c t U)) (blurredValue c t) (value-off c t (suc (c .d))) q
 
 -- a query that is answered meets a point
-answered : (c : Settings) (t : Table) → Usable c t → (q : List ℤ) → code c t q ≡ 0 → meets c t q ≡ true
+pub answered : (c : Settings) (t : Table) → Usable c t → (q : List ℤ) → code c t q ≡ 0 → meets c t q ≡ true
 answered c t U q e = go (code-cases c t U q)
   where
     go : CodeCases c t q → meets c t q ≡ true
@@ -151,7 +141,7 @@ answered c t U q e = go (code-cases c t U q)
     go (inr (j, inr (m, k))) = absurd (omega (arith, e, k))
 
 -- "with value 0 beside any code but 0"
-value-given : (c : Settings) (t : Table) (q : List ℤ) → code c t q ≡ 0 → answer c t q ≡ rounded (weighted c t (blurredValue c t) q) (natAbs (weighted c t (blurredMass c t) q))
+pub value-given : (c : Settings) (t : Table) (q : List ℤ) → code c t q ≡ 0 → answer c t q ≡ rounded (weighted c t (blurredValue c t) q) (natAbs (weighted c t (blurredMass c t) q))
 unfolding valueBy
 value-given c t q e = ap (λ (x : ℕ). beside x (rounded (weighted c t (blurredValue c t) q) (natAbs (weighted c t (blurredMass c t) q)))) e
 

@@ -18,7 +18,6 @@ use Rattle.table.specs.Theorems.{Usable}
 use Rattle.blur.specs.Blur.{masses, values, blurredMass, blurredValue}
 use Rattle.blur.specs.Theorems.{Between}
 use Rattle.filter.specs.Answer.{weightOf, weighted, code, answer}
-use Rattle.filter.specs.Filter.{Lent, Filters}
 
 -- each code of a query on a sound table is met exactly when its condition holds and no earlier one does: 4 and 5 as `judged` has them, 10 at a
 -- position for which no stored point has weight above 0, and 0 at one for which some has
@@ -72,9 +71,3 @@ pub record SameAnswer (c : Settings) (t : Table) (b : Settings) (s : Table) (q :
 abbrev pub AnswerOfMap : Type 0
 AnswerOfMap = (c : Settings) (t : Table) (b : Settings) (s : Table) → Usable c t → Usable b s → c .d ≡ b .d → c .S ≡ b .S
     → ((y : List ℤ) → held c t y ≡ held b s y) → (q : List ℤ) → SameAnswer c t b s q
-
--- "two outcomes allowed by a contract are equal"
-abbrev pub FiltersOnce : Type 0
-FiltersOnce = (c : Settings) (t : Table) (queries : List ℤ) (l : Lent) (number number′ : ℕ) (first first′ second second′ values values′ : List ℤ) (codes codes′ : List ℕ)
-    → Filters c t queries l number first second values codes → Filters c t queries l number′ first′ second′ values′ codes′
-    → (number ≡ number′) × (first ≡ first′) × (second ≡ second′) × (values ≡ values′) × (codes ≡ codes′)

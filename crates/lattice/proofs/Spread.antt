@@ -31,7 +31,7 @@ pub record Spread (n : ℕ) (a : ℕ → ℤ) (s : ℕ) : Type 0 where
   pub is : a hi ≡ a lo +ℤ pos s
 
 module _ (r : ℤ → ℤ → Bool) (re : (a : ℤ) → T (r a a)) (tr : (a b c : ℤ) → T (r a b) → T (r b c) → T (r a c)) (fl : (a b : ℤ) → (T (r a b) → ⊥) → T (r b a)) where
-  best-is : (d : ℕ) (f : ℕ → ℤ) → (h : ℕ) × (h < suc d) × (best r d f ≡ f h) × ((i : ℕ) → i < suc d → T (r (f i) (f h)))
+  pub best-is : (d : ℕ) (f : ℕ → ℤ) → (h : ℕ) × (h < suc d) × (best r d f ≡ f h) × ((i : ℕ) → i < suc d → T (r (f i) (f h)))
   unfolding best
   best-is zero f = (0, omega arith, refl, λ i l. let e : i ≡ 0 = omega arith in rw e (re (f 0)))
   best-is (suc d) f = go (best-is d f) (r (best r d f) (f (suc d))) (λ t. t) (λ t. t)

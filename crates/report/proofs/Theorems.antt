@@ -7,7 +7,7 @@ use lib.ListN.{length, take, drop, length-append}
 use lib.Seq.{take-at}
 use borrow.Author.Tests.{le-leb}
 use Rattle.report.specs.Report.{report, fitting, room, Reports}
-use Rattle.report.specs.Theorems.{Suffices, WithinBuffer, TextOfLog, ReportsOnce}
+use Rattle.report.specs.Theorems.{Suffices, WithinBuffer, TextOfLog}
 use Rattle.report.proofs.Fitting.{report-fits}
 
 pub suffices : Suffices
@@ -34,7 +34,3 @@ text-of-log l buffer buffer′ after after′ bytes bytes′ h h′ R R′ = (
   bytes-of l buffer after bytes h R ∙ sym (bytes-of l buffer′ after′ bytes′ h′ R′),
   written-of l buffer after bytes h R ∙ sym (written-of l buffer′ after′ bytes′ h′ R′),
 )
-
--- ---- two outcomes of one call are equal
-pub reports-once : ReportsOnce
-reports-once l buffer after after′ bytes bytes′ R R′ = (R .bytes-are ∙ sym (R′ .bytes-are), R .after-is ∙ sym (R′ .after-is))

@@ -17,8 +17,3 @@ WithinBuffer = (l buffer after : List ℕ) (bytes : ℕ) → Reports l buffer by
 abbrev pub TextOfLog : Type 0
 TextOfLog = (l buffer buffer′ after after′ : List ℕ) (bytes bytes′ : ℕ) → room ≤ length buffer → room ≤ length buffer′
     → Reports l buffer bytes after → Reports l buffer′ bytes′ after′ → (bytes ≡ bytes′) × (take bytes after ≡ take bytes′ after′)
-
--- Statement: "two outcomes allowed by a contract are equal".
-abbrev pub ReportsOnce : Type 0
-ReportsOnce = (l buffer after after′ : List ℕ) (bytes bytes′ : ℕ) → Reports l buffer bytes after → Reports l buffer bytes′ after′
-    → (bytes ≡ bytes′) × (after ≡ after′)

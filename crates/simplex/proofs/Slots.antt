@@ -19,7 +19,7 @@ use Rattle.lattice.specs.Weight.{W, weight}
 use Rattle.lattice.specs.Points.{cornerAt, corner, lastOf, cornerOf, points, weighed}
 use Rattle.simplex.specs.Slots.{weightIn, coordIn, slotWeights, slotCoords, Encloses, slot}
 use Rattle.simplex.specs.Inner.{padded, CornerIs}
-use Rattle.simplex.specs.Theorems.{SlotsAreThePoints, EnclosedOnce}
+use Rattle.simplex.specs.Theorems.{SlotsAreThePoints}
 use Rattle.lattice.proofs.Grains.{spanned-remainder}
 use Rattle.lattice.proofs.Points.{weight-cong, corner-at, corner-point, corner-weight, found}
 use Rattle.simplex.proofs.CornerWeight.{corner-weighs}
@@ -152,9 +152,6 @@ unfolding weighed points g
 slots-are-the-points d S hd p x ws cs E = rw (E .weights-are, E .coords-are)
     (collect-cong (suc d) (slot d (slotWeights d S x (suc d)) (slotCoords d S x (suc d))) (λ k. map (λ y. (y, weight d S (at x) (at y))) (cornerOf d S x (suc d) k)) (λ k l. slot-is d S hd p x k l)
     ∙ sym (map-collect (λ y. (y, weight d S (at x) (at y))) (suc d) (cornerOf d S x (suc d))))
-
-pub enclosed-once : EnclosedOnce
-enclosed-once d S x ws ws′ cs cs′ E F = (E .weights-are ∙ sym (F .weights-are), E .coords-are ∙ sym (F .coords-are))
 
 -- what a caller needs to read them
 pub weights-length : {d S : ℕ} {x : List ℤ} {ws : List ℕ} {cs : List ℤ} → Encloses d S x ws cs → length ws ≡ 6

@@ -12,8 +12,3 @@ use Rattle.simplex.specs.Slots.{Encloses, slot}
 abbrev pub SlotsAreThePoints : Type 0
 SlotsAreThePoints = (d S : ℕ) → d ≤ most-d → 0 < S → (x : List ℤ) (weights : List ℕ) (coords : List ℤ) → Encloses d S x weights coords
     → collect (suc d) (slot d weights coords) ≡ weighed d S x
-
--- "two outcomes allowed by a contract are equal": those of `enclose`
-abbrev pub EnclosedOnce : Type 0
-EnclosedOnce = (d S : ℕ) (x : List ℤ) (weights weights′ : List ℕ) (coords coords′ : List ℤ) → Encloses d S x weights coords → Encloses d S x weights′ coords′
-    → (weights ≡ weights′) × (coords ≡ coords′)

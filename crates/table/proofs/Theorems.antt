@@ -1,4 +1,4 @@
--- The statements of specs/Theorems.antt and of specs/Heads.antt, proved.
+-- The statements of specs/Theorems.antt, proved.
 use mathlib.Core.Path.{refl, sym, ap, _∙_}
 use Prim.Native.Nat.{_+_, _*_, _%_}
 use lib.Dec.{eqb}
@@ -15,7 +15,6 @@ use Rattle.index.proofs.Finding.{gap, finds-exactly}
 use Rattle.table.specs.Table.{key, row, rows, entry, held}
 use Rattle.table.specs.Reading.{parsed, shares, entered}
 use Rattle.table.specs.Calls.{fresh, enterAll, merged}
-use Rattle.table.specs.Heads.{AnswersOnce}
 use Rattle.table.specs.Theorems.{SearchFinds, EmptyFound, FreshSound, EnterKeeps, EnterLeaves, MergeKeeps, plus, FreshHolds, EnterAdds, MergeAdds, StoredExactly, SumsSmall}
 use Rattle.table.proofs.Soundness.{to-ranged, to-fine, of-fine, fine-kept, mass-bound, total-most}
 use Rattle.table.proofs.Sizes.{good-small}
@@ -72,13 +71,3 @@ sums-small c t U i l =
     let s = good-small (c .d) (row c t i) (F .sound .good i l)
     (le-trans (mass-bound c t (F .sound) i l) (le-out (pos (W (c .d) (c .S) * t .n)) (pos (most-W * most-readings)) (omega (arith, total-most c (t .n) (F .ranged) (F .sound .few))))) in
     record { mass-small = s .mass-small; value-small = s .value-small }
-
--- ---- two answers to one call are equal
-pub answers-once : AnswersOnce
-answers-once c x t number number′ head head′ keys keys′ sums sums′ index index′ A B = (
-  A .number-is ∙ sym (B .number-is),
-  A .head-is ∙ sym (B .head-is),
-  A .keys-are ∙ sym (B .keys-are),
-  A .sums-are ∙ sym (B .sums-are),
-  A .index-are ∙ sym (B .index-are),
-)

@@ -36,9 +36,3 @@ pub record Answers (c : Settings) (x : ℕ) (t : Table) (number : ℕ) (head : H
   pub keys-are : keys ≡ t .keys
   pub sums-are : sums ≡ t .sums
   pub index-are : index ≡ t .index
-
--- Statement: "two outcomes allowed by a contract are equal".
-abbrev pub AnswersOnce : Type 0
-AnswersOnce = (c : Settings) (x : ℕ) (t : Table) (number number′ : ℕ) (head head′ : Head) (keys keys′ sums sums′ : List ℤ) (index index′ : List ℕ)
-    → Answers c x t number head keys sums index → Answers c x t number′ head′ keys′ sums′ index′
-    → (number ≡ number′) × (head ≡ head′) × (keys ≡ keys′) × (sums ≡ sums′) × (index ≡ index′)

@@ -1,0 +1,74 @@
+-- Demand 3: what a table is made of is the readings taken, and their order and their sharing among merged tables do not matter.
+use mathlib.Core.Path.{_≡_, refl, sym, ap, _∙_}
+use mathlib.Core.List.{List}
+use Prim.Native.Nat.{ℕ, _*_}
+use lib.IntN.{ℤ, pos}
+use lib.ListN.{length, length-map}
+use Rattle.whole.specs.Sum.{over}
+use Rattle.lattice.specs.Weight.{W}
+use Rattle.table.specs.Table.{Settings, Table, Row, row, rows}
+use Rattle.table.specs.Reading.{Reading}
+use Rattle.table.specs.Inner.{massOf}
+use Rattle.table.proofs.Lists.{over-tab, over-map}
+use Rattle.table.proofs.Soundness.{of-fine}
+use Rattle.table.proofs.Keeping.{rows-mass}
+use Rattle.listing.specs.Listing.{order, listed}
+use Rattle.listing.proofs.Listings.{ordered-perm, order-length}
+use Rattle.filter.proofs.Theorems.{answer-of-map}
+use Rattle.promises.specs.History.{settingsIn, run, taken}
+use Rattle.promises.specs.Order.{MadeOf, MadeOfThoseTaken, TakenInAnyOrder, OrderDoesNotMatter}
+use Rattle.promises.proofs.Histories.{Built, built, all-taken}
+use Rattle.promises.proofs.Sums.{over-permᴰ, length-perm}
+use Rattle.promises.proofs.Holding.{added-perm, holds-added}
+use Rattle.promises.proofs.Listed.{listed-perm, one-listing, listing-from}
+use Rattle.promises.proofs.Between.{answer-within}
+
+-- ---- the listing has every stored point once
+listed-length : (c : Settings) (t : Table) → length (listed c t) ≡ t .m
+unfolding listed
+listed-length c t = length-map (order c t) (row c t) ∙ order-length c t
+
+listed-over : (c : Settings) (t : Table) (f : Row → ℤ) → over (listed c t) f ≡ over (rows c t) f
+unfolding listed order rows
+listed-over c t f = over-map (row c t) (order c t) f ∙ over-permᴰ (λ i. f (row c t i)) (ordered-perm _ (t .m) (λ i. i))
+    ∙ over-tab (t .m) (λ i. i) (λ i. f (row c t i)) ∙ sym (over-tab (t .m) (row c t) f)
+
+-- ---- a table is made of its readings
+made : (c : Settings) (t : Table) (rs : List Reading) → Built c t rs → MadeOf (c .d) (c .S) rs c t
+made c t rs B = record {
+  usable = of-fine c t (B .fine);
+  counts = B .counts;
+  listing = listing-from c t rs B;
+  points = sym (listed-length c t);
+  total = listed-over c t massOf ∙ rows-mass c t (B .fine) ∙ ap (λ (n : ℕ). pos (W (c .d) (c .S) * n)) (B .counts);
+  between = answer-within c t rs B;
+}
+
+pub made-of-those-taken : MadeOfThoseTaken
+made-of-those-taken d S h k = made (settingsIn d S h) (run d S h) (taken d S h) (built d S h k)
+
+-- ---- and their order does not matter
+pub taken-in-any-order : TakenInAnyOrder
+taken-in-any-order d S h g k j p =
+    let c = settingsIn d S h in
+    let b = settingsIn d S g in
+    let t = run d S h in
+    let s = run d S g in
+    let rs = taken d S h in
+    let qs = taken d S g in
+    let H = made-of-those-taken d S h k in
+    let G = made-of-those-taken d S g j in
+    let one = one-listing d S qs (listed c t) (listed b s) (listed-perm d S rs qs p (listed c t) (H .listing)) (G .listing) in
+    record {
+      same-listing = one;
+      same-readings = H .counts ∙ length-perm rs qs p ∙ sym (G .counts);
+      same-points = H .points ∙ ap length one ∙ sym (G .points);
+      same-answers = answer-of-map c t b s (H .usable) (G .usable) refl refl
+          (λ y. holds-added c t rs (built d S h k) y ∙ added-perm d S rs qs p y ∙ sym (holds-added b s qs (built d S g j) y));
+    }
+
+pub order-does-not-matter : OrderDoesNotMatter
+order-does-not-matter d S h g k j p =
+    let (b, e) = all-taken d S h k in
+    let (a, q) = all-taken d S g j in
+    taken-in-any-order d S h g b a (rw (e, q) p)

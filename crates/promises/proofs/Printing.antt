@@ -1,0 +1,82 @@
+-- Printed lines where the order of readings does not matter: those of the points are told by the sorted listing, those of the answers by the queries.
+use mathlib.Core.Path.{_≡_, refl, sym, ap, ap₂, subst, fun-ext, _∙_}
+use mathlib.Core.List.{List, [], _∷_, _++_, flatMap, Perm}
+use Prim.Native.Nat.{ℕ}
+use native.Mathlib.Omega.{arith}
+use lib.IntN.{ℤ, pos}
+use lib.ListN.{getD}
+use Rattle.whole.specs.Lists.{collect}
+use Rattle.whole.proofs.Lists.{collect-cong}
+use Rattle.table.specs.Table.{Settings, Table, Row, row, whole}
+use Rattle.table.specs.Calls.{fresh}
+use Rattle.listing.specs.Listing.{order, listed}
+use Rattle.listing.proofs.Listings.{order-length}
+use Rattle.filter.specs.Answer.{code, answer}
+use Rattle.log.specs.Items.{settingsOf}
+use Rattle.log.specs.Walk as log
+use Rattle.log.specs.Loading.{load}
+use Rattle.log.specs.Theorems.{items}
+use Rattle.text.specs.Text.{line}
+use Rattle.report.specs.Report.{point-word, headLine, pointLine, pointLines, answerLine, answerLines, perQuery, tableText}
+use Rattle.promises.specs.History.{loading, capacity, run, readings}
+use Rattle.promises.specs.Order.{Same, Printed, PrintedTheSame}
+use Rattle.promises.proofs.Program.{taken-whole}
+use Rattle.promises.proofs.Sorted.{map-at}
+use Rattle.promises.proofs.Order.{order-does-not-matter}
+
+-- ---- the lines of points
+abbrev rowLine : Row → List ℕ
+rowLine r = line point-word (whole (r .key) ++ (r .mass ∷ r .value ∷ []))
+
+-- of so many rows, in their order
+abbrev rowLines : ℕ → List Row → List ℕ
+rowLines n rs = collect n (λ j. rowLine (getD rs j (record { key = []; mass = pos 0; value = pos 0 })))
+
+points-of-listing : (c : Settings) (t : Table) → pointLines c t ≡ rowLines (t .m) (listed c t)
+unfolding pointLines listed
+points-of-listing c t = collect-cong (t .m) (λ j. pointLine c t (getD (order c t) j 0)) _ (λ j h.
+    ap rowLine (sym (map-at (row c t) (order c t) j 0 _ (omega (arith, h, order-length c t)))))
+
+-- ---- the lines of answers
+lines-of-queries : (f : List ℤ → List ℕ) (w : log.Walk) → perQuery f w ≡ flatMap f (log.queries w)
+unfolding perQuery log.queries flatMap
+lines-of-queries f (log.reads a r w) = lines-of-queries f w
+lines-of-queries f (log.asks a q w) = ap (λ (x : List ℕ). f q ++ x) (lines-of-queries f w)
+lines-of-queries f (log.ends x a) = refl
+
+-- ---- tables that answer alike, of one d and S, with the same queries
+module _ (c : Settings) (t : Table) (b : Settings) (s : Table) (dim : c .d ≡ b .d) (fine : c .S ≡ b .S) (E : Same c t b s) where
+  head-same : headLine c t ≡ headLine b s
+  head-same = rw (dim, fine, E .same-readings, E .same-points) refl
+
+  points-same : pointLines c t ≡ pointLines b s
+  points-same = points-of-listing c t ∙ ap₂ rowLines (E .same-points) (E .same-listing) ∙ sym (points-of-listing b s)
+
+  line-same : (q : List ℤ) → answerLine (answer c t q) (code c t q) ≡ answerLine (answer b s q) (code b s q)
+  line-same q = ap₂ answerLine (E .same-answers q .same-value) (E .same-answers q .same-code)
+
+  answers-same : (v w : log.Walk) → log.queries v ≡ log.queries w → answerLines c t v ≡ answerLines b s w
+  answers-same v w e = lines-of-queries _ v ∙ ap₂ flatMap (fun-ext line-same) e ∙ sym (lines-of-queries _ w)
+
+  text-same : (l m : List ℕ) → log.queries (items l) ≡ log.queries (items m) → tableText c t l ≡ tableText b s m
+  text-same l m e = ap₂ _++_ head-same (ap₂ _++_ points-same (answers-same (items l) (items m) e))
+
+-- ---- two logs, loaded
+abbrev tableIn : List ℕ → Table
+tableIn l = load l (fresh (settingsOf l)) .table
+
+tables-same : (l m : List ℕ) → Printed l → Printed m → settingsOf l .d ≡ settingsOf m .d → settingsOf l .S ≡ settingsOf m .S
+    → Perm (log.readings (items l)) (log.readings (items m)) → Same (settingsOf l) (tableIn l) (settingsOf m) (tableIn m)
+unfolding capacity run readings
+tables-same l m P Q dim fine p =
+    let c = settingsOf l in
+    let b = settingsOf m in
+    let b-is : record { d = c .d; S = c .S; C = b .C } ≡ b = λ j. record { d = dim j; S = fine j; C = b .C } in
+    subst (λ (b : Settings). Same c (tableIn l) b (tableIn m)) b-is
+    (order-does-not-matter (c .d) (c .S) (loading l (fresh c)) (loading m (fresh b)) (refl, refl, P .taken) (sym dim, sym fine, Q .taken) p)
+
+pub printed-the-same : PrintedTheSame
+printed-the-same l m P Q dim fine p q =
+    taken-whole l (P .short) (P .settled) (P .taken)
+    ∙ text-same (settingsOf l) (tableIn l) (settingsOf m) (tableIn m) dim fine (tables-same l m P Q dim fine p) l m q
+    ∙ sym (taken-whole m (Q .short) (Q .settled) (Q .taken))

@@ -1,0 +1,197 @@
+-- Where loading stops: at the first place of the walk whose item has a number that is not 0, or at the log's length, with the readings before it in
+-- the table.
+use mathlib.Core.Path.{_≡_, refl, sym, ap, ap₂, subst, _∙_}
+use mathlib.Core.List.{List, _∷_}
+use mathlib.Core.Logic.{_⊎_, inl, inr}
+use Prim.Native.Nat.{ℕ, zero, suc, _+_, _-_, _≤_, _<_}
+use native.Mathlib.Omega.{arith}
+use lib.IntN.{ℤ}
+use lib.ListN.{length}
+use lib.Seq.{take-length}
+use borrow.Author.Tests.{lt-ltb, le-ltb}
+use Rattle.table.specs.Table.{Settings, Table}
+use Rattle.table.specs.Reading as table
+use Rattle.table.specs.Calls.{Outcome, enterAll, fresh, freshRefusal}
+use Rattle.table.proofs.Entering.{enter-yes}
+use Rattle.log.specs.Items.{settingsOf, itemAt, valuesOf, widthOf}
+use Rattle.log.specs.Walk.{Walk, reads, asks, ends, after-settings, step, walkFrom, walk, readings}
+use Rattle.log.specs.Loading.{Load, orElse, startRefusal, stopAt, loadWalk, started, load}
+use Rattle.log.specs.Theorems.{items, Place, before}
+use Rattle.log.specs.declared.items.Item.{Item}
+use Rattle.log.specs.declared.items.Item.the-variants.{Reading, Query, End, Refused}
+use Rattle.log.proofs.Forms.{Formed, formed}
+use Rattle.log.proofs.Leaving.{walk-settings, itemsLoaded, load-accepted, start-zero}
+use Rattle.log.proofs.CutItems.{item-end}
+use Rattle.log.proofs.Cuts.{place-from}
+use Rattle.log.proofs.Theorems.{taken-whole}
+use Rattle.promises.specs.LogRefusals.{numberFor, LoadStops, LoadRefuses}
+
+-- ---- what becomes of the readings before a place of a walk, entered into the table t
+abbrev entersTo : Settings → Table → Walk → ℕ → Outcome
+entersTo c t w p = enterAll c t (before p w)
+
+abbrev tableAt : Settings → Table → Walk → ℕ → Table
+tableAt c t w p = entersTo c t w p .table
+
+-- the same number and table, whatever was taken
+abbrev Alike : Outcome → Outcome → Type 0
+Alike o u = (o .number ≡ u .number) × (o .table ≡ u .table)
+
+module _ (c : Settings) (t : Table) (a : ℕ) (w : Walk) where
+  none-at-reading : (r : table.Reading) → entersTo c t (reads a r w) a ≡ record { taken = 0; number = 0; table = t }
+  unfolding before enterAll
+  none-at-reading r = rw (le-ltb a a (omega arith)) refl
+
+  after-reading : (r : table.Reading) (p : ℕ) → a < p → table.refusal c t r ≡ 0 → Alike (entersTo c t (reads a r w) p) (entersTo c (table.entered c t r) w p)
+  unfolding before
+  after-reading r p h e = rw (lt-ltb a p h) (let y = enter-yes c t r (before p w) e in (ap (λ (o : Outcome). o .number) y, ap (λ (o : Outcome). o .table) y))
+
+  after-query : (q : List ℤ) (p : ℕ) → a < p → Alike (entersTo c t (asks a q w) p) (entersTo c t w p)
+  unfolding before
+  after-query q p h = rw (lt-ltb a p h) (refl, refl)
+
+  -- all readings are before a place past the first, if all later ones are
+  readings-past : (r : table.Reading) (p : ℕ) → a < p → before p w ≡ readings w → before p (reads a r w) ≡ readings (reads a r w)
+  unfolding before readings
+  readings-past r p h e = rw (lt-ltb a p h) (ap (λ (rs : List table.Reading). r ∷ rs) e)
+
+  readings-past-query : (q : List ℤ) (p : ℕ) → a < p → before p w ≡ readings w → before p (asks a q w) ≡ readings (asks a q w)
+  unfolding before readings
+  readings-past-query q p h e = rw (lt-ltb a p h) e
+
+module _ (l : List ℕ) where
+  abbrev c : Settings
+  c = settingsOf l
+
+  -- the number of the item at an offset, where t is the table before it
+  abbrev numberIn : Table → ℕ → ℕ
+  numberIn t a = numberFor l t a (itemAt l a)
+
+  -- ---- the walk w loaded into t stops as o
+  record Stops (t : Table) (w : Walk) (o : Load) : Type 0 where
+    place : Place (o .offset) w
+    number-is : o .number ≡ numberIn (o .table) (o .offset)
+    none-before : (a : ℕ) → Place a w → a < o .offset → numberIn (tableAt c t w a) a ≡ 0
+    table-is : o .table ≡ tableAt c t w (o .offset)
+    all-taken : entersTo c t w (o .offset) .number ≡ 0
+    all-read : o .number ≡ 0 → before (o .offset) w ≡ readings w
+
+  abbrev Loading : Table → Walk → Type 0
+  Loading t w = Stops t w (loadWalk c t w)
+
+  -- where the items end
+  stops-end : (t : Table) (a x : ℕ) → numberIn t a ≡ x → Loading t (ends x a)
+  unfolding loadWalk before enterAll readings
+  stops-end t a x e = record { place = refl; number-is = sym e; none-before = λ p z h. absurd (omega arith); table-is = refl; all-taken = refl; all-read = λ z. refl }
+
+  module _ (t : Table) (a : ℕ) (w : Walk) (after : (p : ℕ) → Place p w → a < p) where
+    -- at a reading that is refused
+    stops-refused : (r : table.Reading) (x : ℕ) → numberIn t a ≡ suc x → Stops t (reads a r w) (record { number = suc x; offset = a; settings = c; table = t })
+    stops-refused r x e = record {
+      place = inl refl;
+      number-is = sym e;
+      none-before = none;
+      table-is = sym (ap (λ (o : Outcome). o .table) (none-at-reading c t a w r));
+      all-taken = ap (λ (o : Outcome). o .number) (none-at-reading c t a w r);
+      all-read = λ z. absurd (omega arith);
+    }
+      where
+        none : (p : ℕ) → Place p (reads a r w) → p < a → numberIn (tableAt c t (reads a r w) p) p ≡ 0
+        none p (inl z) h = absurd (omega arith)
+        none p (inr z) h = absurd (omega (arith, after p z))
+
+    -- after an item that is taken: v is the walk from it, whose places are its own and those of the rest, and u is the table with it
+    goes-on : (u : Table) (v : Walk) (o : Load) → ((p : ℕ) → Place p w → Place p v) → ((p : ℕ) → Place p v → (p ≡ a) ⊎ Place p w)
+        → numberIn (tableAt c t v a) a ≡ 0 → ((p : ℕ) → a < p → Alike (entersTo c t v p) (entersTo c u w p)) → ((p : ℕ) → a < p → before p w ≡ readings w → before p v ≡ readings v)
+        → Stops u w o → Stops t v o
+    goes-on u v o f g e same read S = record {
+      place = f (o .offset) (S .place);
+      number-is = S .number-is;
+      none-before = λ p z. none p (g p z);
+      table-is = S .table-is ∙ sym (same (o .offset) past .1);
+      all-taken = same (o .offset) past .0 ∙ S .all-taken;
+      all-read = λ z. read (o .offset) past (S .all-read z);
+    }
+      where
+        past : a < o .offset
+        past = after (o .offset) (S .place)
+
+        none : (p : ℕ) → (p ≡ a) ⊎ Place p w → p < o .offset → numberIn (tableAt c t v p) p ≡ 0
+        none p (inl z) h = subst (λ (p : ℕ). numberIn (tableAt c t v p) p ≡ 0) (sym z) e
+        none p (inr z) h = ap (λ (u : Table). numberIn u p) (same p (after p z) .1) ∙ S .none-before p z h
+
+    stops-query : (d : ℕ) → itemAt l a ≡ Query d → Loading t w → Loading t (step l a (Query d) w)
+    unfolding loadWalk
+    stops-query d e = goes-on t (step l a (Query d) w) _ (λ p. inr) (λ p z. z) (ap (numberFor l _ a) e) (after-query c t a w (valuesOf l a (Query d)))
+        (readings-past-query c t a w (valuesOf l a (Query d)))
+
+    stops-reading : (d : ℕ) → itemAt l a ≡ Reading d → ((u : Table) → Loading u w) → Loading t (step l a (Reading d) w)
+    unfolding loadWalk
+    stops-reading d e k = go (table.refusal c t r) refl
+      where
+        r : table.Reading
+        r = table.readingAt d (valuesOf l a (Reading d)) 0
+
+        go : (x : ℕ) → table.refusal c t r ≡ x → Stops t (reads a r w) (stopAt x c t a (loadWalk c (table.entered c t r) w))
+        go zero y =
+            let u = table.entered c t r in
+            let none = ap (λ (o : Outcome). numberIn (o .table) a) (none-at-reading c t a w r) ∙ ap (numberFor l t a) e ∙ y in
+            goes-on u (reads a r w) _ (λ p. inr) (λ p z. z) none (λ p h. after-reading c t a w r p h y) (readings-past c t a w r) (k u)
+        go (suc x) y = stops-refused r x (ap (numberFor l t a) e ∙ y)
+
+  stops-step : (t : Table) (a : ℕ) (i : Item) (w : Walk) → itemAt l a ≡ i → Formed l a i → ((p : ℕ) → Place p w → a + widthOf i ≤ p)
+      → (0 < widthOf i → a + widthOf i ≤ length l → (u : Table) → Loading u w) → Loading t (step l a i w)
+  stops-step t a (Item.Settings d S C) w e f g k = stops-end t a _ (ap (numberFor l t a) e)
+  stops-step t a (Reading d) w e f g k = stops-reading t a w (λ p z. omega (arith, g p z)) d e (k (omega arith) (f .whole))
+  stops-step t a (Query d) w e f g k = stops-query t a w (λ p z. omega (arith, g p z)) d e (k (omega arith) (f .whole) t)
+  stops-step t a End w e f g k = stops-end t a _ (ap (numberFor l t a) e)
+  stops-step t a (Refused x) w e f g k = stops-end t a _ (ap (numberFor l t a) e)
+
+  stops : (n a : ℕ) (t : Table) → length l - a < n → Loading t (walkFrom n l a)
+  unfolding walkFrom
+  stops zero a t h = absurd (omega arith)
+  stops (suc n) a t h =
+      let b = a + widthOf (itemAt l a) in
+      stops-step t a (itemAt l a) _ refl (formed l a) (place-from n l b) (λ g f u. stops n b u (omega arith))
+
+  -- ---- at the log's length there is no number
+  none-at-length : after-settings ≤ length l → (t : Table) → numberIn t (length l) ≡ 0
+  none-at-length h t =
+      let e = item-end l (length l) (omega arith) (omega arith) in
+      ap (numberFor l t (length l)) (subst (λ (m : List ℕ). itemAt m (length l) ≡ End) (take-length l) e)
+
+  -- ---- the settings are accepted
+  loads : Loading (fresh c) (items l)
+  unfolding walk
+  loads = stops (suc (length l)) after-settings (fresh c) (omega arith)
+
+  pub load-stops : (t : Table) → startRefusal l t ≡ 0 → LoadStops l (load l t)
+  load-stops t e =
+      let A = load-accepted l t e in
+      let o = itemsLoaded l in
+      subst (LoadStops l) (sym (A .is)) (record {
+        place = loads .place;
+        number-is = loads .number-is ∙ ap (λ (u : Table). numberIn u (o .offset)) (loads .table-is);
+        none-before = loads .none-before;
+        settings-are = walk-settings c (fresh c) (items l);
+        table-is = loads .table-is;
+        all-taken = loads .all-taken;
+        whole = (
+          λ z. ap (λ (o : Load). o .offset) (sym (A .is) ∙ taken-whole l t (ap (λ (o : Load). o .number) (A .is) ∙ z) .is),
+          λ z. loads .number-is ∙ ap (numberIn (o .table)) z ∙ none-at-length (A .whole) (o .table),
+        );
+      })
+
+  -- a log taken whole is taken with all of its readings
+  pub load-reads : (t : Table) → load l t .number ≡ 0 → before (load l t .offset) (items l) ≡ readings (items l)
+  load-reads t e =
+      let A = load-accepted l t (start-zero l t e) in
+      ap (λ (o : Load). before (o .offset) (items l)) (A .is) ∙ loads .all-read (ap (λ (o : Load). o .number) (sym (A .is)) ∙ e)
+
+pub load-refuses : (l : List ℕ) (t : Table) → LoadRefuses l t
+unfolding load
+load-refuses l t = record {
+  settings-refused = λ x e. ap (λ (y : ℕ). started (orElse y (freshRefusal (settingsOf l) t)) l t) e;
+  table-refused = λ x e f. ap₂ (λ (y z : ℕ). started (orElse y z) l t) e f;
+  begun = λ e f. load-stops l t (ap₂ orElse e f);
+}

@@ -1,0 +1,41 @@
+-- The worked log in four ways: computed.
+use mathlib.Core.Path.{refl}
+use Rattle.whole.specs.Floor.{floor, remainder}
+use Rattle.whole.specs.Rounding.{rounded}
+use Rattle.whole.specs.Sum.{sum, over, all}
+use Rattle.whole.specs.Lists.{tab, collect}
+use Rattle.whole.specs.Word.{word}
+use Rattle.lattice.specs.Refusals.{first}
+use Rattle.lattice.specs.Position.{allNear, sumsToZero}
+use Rattle.lattice.specs.Weight.{best, spread, weight}
+use Rattle.lattice.specs.Points.{corner, lastOf, points}
+use Rattle.index.specs.Keys.{same, keyAt, hash, home}
+use Rattle.index.specs.Search.{walk as sequence, search as sought}
+use Rattle.index.specs.Indexed.{count, sparse, finding}
+use Rattle.table.specs.Table.{rows, whole}
+use Rattle.table.specs.Sound.{goodKey, goodPair, indexed, sound}
+use Rattle.table.specs.Pour.{setPair, append, raise, pour, news}
+use Rattle.table.specs.Reading.{parsed, shares, refusal}
+use Rattle.table.specs.Calls.{ranged, fits, fresh, freshRefusal, afterFresh, enterAll, callRefusal, enter, mergeRefusal, afterMerge}
+use Rattle.listing.specs.Order.{before, insert, ordered}
+use Rattle.listing.specs.Listing.{order, listed}
+use Rattle.blur.specs.Blur.{step, plusStep, minusStep, pass, passes, massAfter, valueAfter}
+use Rattle.filter.specs.Answer.{weighted, meets, codeBy, valueBy}
+use Rattle.log.specs.Bytes.{wordAt, signed}
+use Rattle.log.specs.Kinds.{kindOf}
+use Rattle.log.specs.Items.{formRefusal, itemAt}
+use Rattle.log.specs.Walk.{walk, walkFrom}
+use Rattle.log.specs.Loading.{loadWalk, load}
+use Rattle.promises.specs.History.{capacity, run}
+use Rattle.promises.specs.Worked.{WorkedWays}
+
+pub worked-ways : WorkedWays
+unfolding floor remainder rounded sum over all tab collect word first allNear sumsToZero best spread weight corner lastOf points same keyAt hash home sequence sought count sparse finding rows whole goodKey goodPair indexed sound setPair append raise pour news parsed shares refusal ranged fits fresh freshRefusal afterFresh enterAll callRefusal enter mergeRefusal afterMerge before insert ordered order listed step plusStep minusStep pass passes massAfter valueAfter weighted meets codeBy valueBy wordAt signed kindOf formRefusal itemAt walk walkFrom loadWalk load capacity run
+worked-ways = record {
+  log-way = record { begun = (refl, refl, refl); points = refl; answered = refl };
+  list-way = record { begun = refl; points = refl; answered = refl };
+  tables-way = record { begun = (refl, refl); points = refl; answered = refl };
+  half-way = record { begun = (refl, refl, refl); points = refl; answered = refl };
+  none-refused = ((refl, refl, refl), (refl, refl), ((refl, refl), (refl, refl), refl));
+  half-refused = refl;
+}

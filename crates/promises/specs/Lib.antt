@@ -1,0 +1,8 @@
+pub mod History
+pub mod Order
+pub mod Filter
+pub mod Refusals
+pub mod LogRefusals
+pub mod EveryCall
+pub mod Starred
+pub mod Worked

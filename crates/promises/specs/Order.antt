@@ -1,0 +1,108 @@
+-- Demand 3: "Order does not matter: any order, any sharing among merged tables, gives the same sorted listing, total and answers, and an answer lies
+-- between the least and the greatest value entered."
+use mathlib.Core.Path.{_≡_}
+use mathlib.Core.List.{List, [], map, Perm}
+use Prim.Native.Nat.{ℕ, _*_, _-_, _≤_, _<_}
+use lib.Dec.{T}
+use lib.IntN.{ℤ, pos, _*ℤ_}
+use lib.ListN.{length, getD, take}
+use lib.Signed.{_≤ℤ_}
+use Rattle.whole.specs.Size.{Within}
+use Rattle.whole.specs.Sum.{over}
+use Rattle.whole.specs.Lists.{at, All, Each}
+use Rattle.lattice.specs.Lattice.{Point}
+use Rattle.lattice.specs.Weight.{W, weight, least, greatest}
+use Rattle.table.specs.Table.{Settings, Table, Row, whole}
+use Rattle.table.specs.Reading.{Reading}
+use Rattle.table.specs.Calls.{fresh}
+use Rattle.table.specs.Inner.{massOf}
+use Rattle.table.specs.Theorems.{Usable}
+use Rattle.listing.specs.Order.{before}
+use Rattle.listing.specs.Listing.{listed}
+use Rattle.filter.specs.Answer.{code, answer}
+use Rattle.filter.specs.Theorems.{SameAnswer}
+use Rattle.log.specs.Items.{settingsOf}
+use Rattle.log.specs.Walk as log
+use Rattle.log.specs.Loading.{load}
+use Rattle.log.specs.Theorems.{items}
+use Rattle.report.specs.Report.{most-bytes, settingsRefusal, report}
+use Rattle.promises.specs.History.{History, settingsIn, run, Begun, taken, NoneRefused, readings}
+
+-- "add w to its mass and w·v to its value sum": what readings give to the lattice point y, each by its weight alone
+abbrev pub massFrom : ℕ → ℕ → List Reading → List ℤ → ℤ
+massFrom d S rs y = over rs (λ r. pos (weight d S (at (r .place)) (at y)))
+
+abbrev pub valueFrom : ℕ → ℕ → List Reading → List ℤ → ℤ
+valueFrom d S rs y = over rs (λ r. pos (weight d S (at (r .place)) (at y)) *ℤ r .value)
+
+-- a stored point is a lattice point with what the readings give to it, which is above 0
+pub record RowFrom (d S : ℕ) (rs : List Reading) (r : Row) : Type 0 where
+  pub point : Point d (whole (r .key))
+  pub mass-is : r .mass ≡ massFrom d S rs (whole (r .key))
+  pub value-is : r .value ≡ valueFrom d S rs (whole (r .key))
+  pub some : pos 1 ≤ℤ r .mass
+
+-- The sorted listing of readings, which speaks of no table: such rows, ascending, and no lattice point is missing to which a reading gives weight.
+pub record ListedFrom (d S : ℕ) (rs : List Reading) (l : List Row) : Type 0 where
+  pub each : All (RowFrom d S rs) l
+  pub ascending : Each (λ a b. T (before (a .key) (b .key))) l
+  pub full : (y : List ℤ) → Point d y → pos 1 ≤ℤ massFrom d S rs y → (i : ℕ) × (i < length l) × (getD (map (λ r. r .key) l) i [] ≡ take d y)
+
+-- the values entered: the least and the greatest of them
+abbrev pub valueIn : List Reading → ℕ → ℤ
+valueIn rs i = at (map (λ r. r .value) rs) i
+
+abbrev pub leastIn : List Reading → ℤ
+leastIn rs = least (length rs - 1) (valueIn rs)
+
+abbrev pub greatestIn : List Reading → ℤ
+greatestIn rs = greatest (length rs - 1) (valueIn rs)
+
+-- What a table c, t is held to that was made of the readings rs:
+pub record MadeOf (d S : ℕ) (rs : List Reading) (c : Settings) (t : Table) : Type 0 where
+  pub usable : Usable c t
+  -- it counts them,
+  pub counts : t .n ≡ length rs
+  -- its points are listed as theirs,
+  pub listing : ListedFrom d S rs (listed c t)
+  pub points : t .m ≡ length (listed c t)
+  -- its total mass is W times their number,
+  pub total : over (listed c t) massOf ≡ pos (W d S * length rs)
+  -- and "an answer lies between the least and the greatest value entered".
+  pub between : (q : List ℤ) → code c t q ≡ 0 → Within (leastIn rs) (greatestIn rs) (answer c t q)
+
+-- Statement: every table that was begun is made of the readings that its calls took, whatever was refused on the way.
+abbrev pub MadeOfThoseTaken : Type 0
+MadeOfThoseTaken = (d S : ℕ) (h : History) → Begun d S h → MadeOf d S (taken d S h) (settingsIn d S h) (run d S h)
+
+-- Statement: where no call was refused, these are all of its readings.
+abbrev pub AllTaken : Type 0
+AllTaken = (d S : ℕ) (h : History) → NoneRefused d S h → Begun d S h × (taken d S h ≡ readings d h)
+
+-- "the same sorted listing, total and answers"
+pub record Same (c : Settings) (t : Table) (b : Settings) (s : Table) : Type 0 where
+  pub same-listing : listed c t ≡ listed b s
+  pub same-readings : t .n ≡ s .n
+  pub same-points : t .m ≡ s .m
+  pub same-answers : (q : List ℤ) → SameAnswer c t b s q
+
+-- Statement: "any order, any sharing among merged tables", of the same readings taken,
+abbrev pub TakenInAnyOrder : Type 0
+TakenInAnyOrder = (d S : ℕ) (h g : History) → Begun d S h → Begun d S g → Perm (taken d S h) (taken d S g)
+    → Same (settingsIn d S h) (run d S h) (settingsIn d S g) (run d S g)
+
+-- and so of the same readings, where no call was refused.
+abbrev pub OrderDoesNotMatter : Type 0
+OrderDoesNotMatter = (d S : ℕ) (h g : History) → NoneRefused d S h → NoneRefused d S g → Perm (readings d h) (readings d g)
+    → Same (settingsIn d S h) (run d S h) (settingsIn d S g) (run d S g)
+
+-- a log that `dyemap` does not refuse
+pub record Printed (l : List ℕ) : Type 0 where
+  pub short : length l ≤ most-bytes
+  pub settled : settingsRefusal l ≡ 0
+  pub taken : load l (fresh (settingsOf l)) .number ≡ 0
+
+-- Statement: and so of what `dyemap` prints: two logs of one d and S with the same readings in any order, and the same queries, print the same bytes
+abbrev pub PrintedTheSame : Type 0
+PrintedTheSame = (l m : List ℕ) → Printed l → Printed m → settingsOf l .d ≡ settingsOf m .d → settingsOf l .S ≡ settingsOf m .S
+    → Perm (log.readings (items l)) (log.readings (items m)) → log.queries (items l) ≡ log.queries (items m) → report l ≡ report m
