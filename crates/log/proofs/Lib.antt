@@ -1,13 +1,7 @@
 pub mod Agreeing
-pub mod Forms
-pub mod Filling
-pub mod Arms
-pub mod Answering
-pub mod Walking
 pub mod Leaving
 pub mod Taking
 pub mod Starting
-pub mod CutItems
 pub mod WholeLogs
 pub mod Cuts
 pub mod Theorems

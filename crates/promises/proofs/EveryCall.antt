@@ -11,9 +11,15 @@ use Rattle.table.specs.Heads.{headOf}
 use Rattle.table.proofs.Calls.{fresh-refused, enter-refused, merge-refused}
 use Rattle.listing.specs.Listing.{listRefusal, afterList}
 use Rattle.filter.specs.Filter.{Lent, filterRefusal, afterFilter}
+use Rattle.reader.specs.Items.{foundAt}
+use Rattle.reader.specs.Reader.{here, movedOn}
 use Rattle.log.specs.Loading.{load}
 use Rattle.report.specs.Report.{report, fitting}
-use Rattle.promises.specs.EveryCall.{Only, One, Left, LeftInC, inC, AnswerAllows, EnterAllows, LoadAllows, ListAllows, FilterAllows, ReportAllows, EveryCallOne, RefusedLeavesAll, EqualOnly, InnerOnly}
+use Rattle.promises.specs.EveryCall.{Only, One, Left, LeftInC, inC, AnswerAllows, EnterAllows, LoadAllows, ListAllows, FilterAllows, ReportAllows, EveryCallOne, ReaderOne, RefusedLeavesAll, EqualOnly, InnerOnly}
+
+-- a contract that says what the answer equals
+pub equal-only : EqualOnly
+equal-only A x a b p q = p ∙ sym q
 
 -- ---- calls on a table
 -- the outcome of a call of number x that hands back the head of t and leaves the memory of t
@@ -125,6 +131,22 @@ every-call-one = record {
   load-in-C = λ l t. beside-in-C (loads-one l t);
 }
 
+-- ---- the reader
+pub reader-one : ReaderOne
+reader-one = record {
+  reader-at-one = λ log at. record {
+    outcome = record { log = log; at = at };
+    allowed = (refl, refl);
+    only = λ a b A B. λ i. record { log = (A .0 ∙ sym (B .0)) i; at = (A .1 ∙ sym (B .1)) i };
+  };
+  next-one = λ reader. record {
+    outcome = (here reader, movedOn reader);
+    allowed = (refl, refl);
+    only = λ a b A B. λ i. ((A .0 ∙ sym (B .0)) i, (A .1 ∙ sym (B .1)) i);
+  };
+  read-at-one = λ l a. record { outcome = foundAt l a; allowed = refl; only = equal-only _ (foundAt l a) };
+}
+
 -- ---- refused as a whole
 pub refused-leaves-all : RefusedLeavesAll
 unfolding afterList afterFilter
@@ -137,9 +159,6 @@ refused-leaves-all = record {
 }
 
 -- ---- the functions inside
-pub equal-only : EqualOnly
-equal-only A x a b p q = p ∙ sym q
-
 pub inner-only : InnerOnly
 inner-only = record {
   pair-at = λ x a b A B. A .0 ∙ sym (B .0);

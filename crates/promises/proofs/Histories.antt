@@ -21,7 +21,7 @@ use Rattle.table.proofs.Refusals.{first-zero}
 use Rattle.table.proofs.Keeping.{fresh-fine, parsed-size, mergeable, merged-adds}
 use Rattle.table.proofs.Entering.{enterAll-adds, enter-all}
 use Rattle.table.proofs.Calls.{fresh-done, enter-done, enter-refused, merge-done, merge-refused}
-use Rattle.log.specs.Items.{settingsOf}
+use Rattle.reader.specs.Items.{settingsOf}
 use Rattle.log.specs.Loading.{startRefusal, load}
 use Rattle.log.specs.Theorems.{items, tableOf, before}
 use Rattle.log.proofs.Leaving.{load-accepted, start-zero}

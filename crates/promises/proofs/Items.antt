@@ -12,12 +12,12 @@ use borrow.Author.Tests.{leb-true, leb-false, le-leb, lt-leb}
 use Rattle.whole.proofs.Tests.{T-true, T-false}
 use Rattle.lattice.specs.Refusals.{first, kind-not-listed, settings-misplaced, other-dimension, body-cut}
 use Rattle.table.proofs.Refusals.{T-of}
-use Rattle.log.specs.Bytes.{byteAt}
-use Rattle.log.specs.Kinds.{kindOf, bodyLength, isListed, isSettings, ofDimension}
-use Rattle.log.specs.declared.kinds.Kind.{Kind}
-use Rattle.log.specs.declared.kinds.Kind.the-variants.{OfSettings, OfReading, OfQuery, Unlisted}
-use Rattle.log.specs.Items.{settingsOf, placed, formRefusal, content, unless, endAt, itemAt, numberOf}
-use Rattle.log.proofs.Forms.{none-fails}
+use Rattle.reader.specs.Bytes.{byteAt}
+use Rattle.reader.specs.Kinds.{kindOf, bodyLength, isListed, isSettings, ofDimension}
+use Rattle.reader.specs.declared.kinds.Kind.{Kind}
+use Rattle.reader.specs.declared.kinds.Kind.the-variants.{OfSettings, OfReading, OfQuery, Unlisted}
+use Rattle.reader.specs.Items.{settingsOf, placed, formRefusal, content, unless, endAt, itemAt, numberOf}
+use Rattle.reader.proofs.Forms.{none-fails}
 use Rattle.promises.specs.Refusals.{Not}
 use Rattle.promises.specs.LogRefusals.{ItemRefused}
 

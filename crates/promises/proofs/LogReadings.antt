@@ -8,12 +8,12 @@ use lib.ListN.{length}
 use Rattle.whole.specs.Lists.{at, All}
 use Rattle.whole.proofs.Lists.{length-tab}
 use Rattle.table.specs.Reading as table
-use Rattle.log.specs.Items.{settingsOf, itemAt, valuesOf, widthOf}
-use Rattle.log.specs.Walk.{Walk, reads, asks, ends, step, walkFrom, walk, after-settings, readings}
+use Rattle.reader.specs.Items.{settingsOf, itemAt, valuesOf, widthOf}
+use Rattle.reader.specs.Walk.{Walk, reads, asks, ends, step, walkFrom, walk, after-settings, readings}
 use Rattle.log.specs.Theorems.{items, before}
-use Rattle.log.specs.declared.items.Item.{Item}
-use Rattle.log.specs.declared.items.Item.the-variants.{Reading, Query, End, Refused}
-use Rattle.log.proofs.Forms.{Formed, formed}
+use Rattle.reader.specs.declared.items.Item.{Item}
+use Rattle.reader.specs.declared.items.Item.the-variants.{Reading, Query, End, Refused}
+use Rattle.reader.proofs.Forms.{Formed, formed}
 
 abbrev pub Sized : ℕ → List table.Reading → Type 0
 Sized d rs = All (λ r. length (r .place) ≡ suc d) rs

@@ -12,8 +12,8 @@ use Rattle.table.specs.Calls.{fresh}
 use Rattle.listing.specs.Listing.{order, listed}
 use Rattle.listing.proofs.Listings.{order-length}
 use Rattle.filter.specs.Answer.{code, answer}
-use Rattle.log.specs.Items.{settingsOf}
-use Rattle.log.specs.Walk as log
+use Rattle.reader.specs.Items.{settingsOf}
+use Rattle.reader.specs.Walk as log
 use Rattle.log.specs.Loading.{load}
 use Rattle.log.specs.Theorems.{items}
 use Rattle.text.specs.Text.{line}

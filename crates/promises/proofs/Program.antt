@@ -10,7 +10,7 @@ use Rattle.table.specs.Table.{Settings}
 use Rattle.table.specs.Calls.{ranged, fresh}
 use Rattle.table.specs.Inner.{Ranged}
 use Rattle.table.proofs.Soundness.{to-ranged, of-ranged}
-use Rattle.log.specs.Items.{settingsOf, itemAt, numberOf}
+use Rattle.reader.specs.Items.{settingsOf, itemAt, numberOf}
 use Rattle.log.specs.Loading.{load}
 use Rattle.log.proofs.Leaving.{load-settings}
 use Rattle.report.specs.Report.{most-bytes, most-points, tableText, loadedText, settingsRefusal, settledText, report}

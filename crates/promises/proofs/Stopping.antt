@@ -13,15 +13,15 @@ use Rattle.table.specs.Table.{Settings, Table}
 use Rattle.table.specs.Reading as table
 use Rattle.table.specs.Calls.{Outcome, enterAll, fresh, freshRefusal}
 use Rattle.table.proofs.Entering.{enter-yes}
-use Rattle.log.specs.Items.{settingsOf, itemAt, valuesOf, widthOf}
-use Rattle.log.specs.Walk.{Walk, reads, asks, ends, after-settings, step, walkFrom, walk, readings}
+use Rattle.reader.specs.Items.{settingsOf, itemAt, valuesOf, widthOf}
+use Rattle.reader.specs.Walk.{Walk, reads, asks, ends, after-settings, step, walkFrom, walk, readings}
 use Rattle.log.specs.Loading.{Load, orElse, startRefusal, stopAt, loadWalk, started, load}
 use Rattle.log.specs.Theorems.{items, Place, before}
-use Rattle.log.specs.declared.items.Item.{Item}
-use Rattle.log.specs.declared.items.Item.the-variants.{Reading, Query, End, Refused}
-use Rattle.log.proofs.Forms.{Formed, formed}
+use Rattle.reader.specs.declared.items.Item.{Item}
+use Rattle.reader.specs.declared.items.Item.the-variants.{Reading, Query, End, Refused}
+use Rattle.reader.proofs.Forms.{Formed, formed}
 use Rattle.log.proofs.Leaving.{walk-settings, itemsLoaded, load-accepted, start-zero}
-use Rattle.log.proofs.CutItems.{item-end}
+use Rattle.reader.proofs.CutItems.{item-end}
 use Rattle.log.proofs.Cuts.{place-from}
 use Rattle.log.proofs.Theorems.{taken-whole}
 use Rattle.promises.specs.LogRefusals.{numberFor, LoadStops, LoadRefuses}

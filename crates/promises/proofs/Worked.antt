@@ -21,10 +21,10 @@ use Rattle.listing.specs.Order.{before, insert, ordered}
 use Rattle.listing.specs.Listing.{order, listed}
 use Rattle.blur.specs.Blur.{step, plusStep, minusStep, pass, passes, massAfter, valueAfter}
 use Rattle.filter.specs.Answer.{weighted, meets, codeBy, valueBy}
-use Rattle.log.specs.Bytes.{wordAt, signed}
-use Rattle.log.specs.Kinds.{kindOf}
-use Rattle.log.specs.Items.{formRefusal, itemAt}
-use Rattle.log.specs.Walk.{walk, walkFrom}
+use Rattle.reader.specs.Bytes.{wordAt, signed}
+use Rattle.reader.specs.Kinds.{kindOf}
+use Rattle.reader.specs.Items.{formRefusal, itemAt}
+use Rattle.reader.specs.Walk.{walk, walkFrom}
 use Rattle.log.specs.Loading.{loadWalk, load}
 use Rattle.promises.specs.History.{capacity, run}
 use Rattle.promises.specs.Worked.{WorkedWays}

@@ -6,6 +6,7 @@ use mathlib.Core.Bool.{Bool}
 use mathlib.Core.List.{List}
 use Prim.Native.Nat.{ℕ, suc, _<_}
 use lib.IntN.{ℤ}
+use denote.Ref.{RefT}
 use Rattle.table.specs.declared.Head.{Head}
 use Rattle.table.specs.Table.{Settings, Table}
 use Rattle.table.specs.Calls.{lent, freshRefusal, afterFresh, enterRefusal, enter, mergeRefusal, afterMerge}
@@ -16,6 +17,11 @@ use Rattle.listing.specs.Listing.{listRefusal, afterList, Lists}
 use Rattle.blur.specs.Inner.{PairIs, Blurred}
 use Rattle.filter.specs.Filter.{Lent, filterRefusal, afterFilter, Filters}
 use Rattle.filter.specs.Inner.{ReplyIs, RepliesAre}
+use Rattle.reader.specs.declared.Reader.{Reader}
+use Rattle.reader.specs.declared.items.Item.{Item}
+use Rattle.reader.specs.declared.items.Found.{Found}
+use Rattle.reader.specs.Items.{foundAt}
+use Rattle.reader.specs.Reader.{here, movedOn}
 use Rattle.log.specs.Loading.{load, Loads}
 use Rattle.text.specs.Text.{Written}
 use Rattle.report.specs.Report.{Reports}
@@ -93,6 +99,13 @@ pub record EveryCallOne : Type 0 where
   pub enter-in-C : (c : Settings) (t : Table) (l : List ℤ) → One (λ (o : ℕ × LeftInC). EnterAllows c t l (o .0, inC (o .1)))
   pub merge-in-C : (c : Settings) (t : Table) (b : Settings) (s : Table) → One (λ (o : LeftInC). MergeAllows c t b s (inC o))
   pub load-in-C : (l : List ℕ) (t : Table) → One (λ (o : ℕ × LeftInC). LoadAllows l t (o .0, inC (o .1)))
+
+-- Statement: so have the functions of the reader: it is made of a log and an offset; it answers the item here and is moved on; and what is read at an
+-- offset is the item and where the next one begins.
+pub record ReaderOne : Type 0 where
+  pub reader-at-one : (log : RefT (List ℕ)) (at : ℕ) → One (λ (r : Reader). (r .log ≡ log) × (r .at ≡ at))
+  pub next-one : (reader : Reader) → One (λ (o : Item × Reader). (o .0 ≡ here reader) × (o .1 ≡ movedOn reader))
+  pub read-at-one : (l : List ℕ) (a : ℕ) → One (λ (r : Found). r ≡ foundAt l a)
 
 -- Statement: "A call refused as a whole hands back the head it was given and changes no lent memory. A refused fresh call hands back d, S and C as given,
 -- with n and m 0."

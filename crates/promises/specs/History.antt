@@ -7,8 +7,8 @@ use lib.ListN.{take}
 use Rattle.table.specs.Table.{Settings, Table}
 use Rattle.table.specs.Reading.{Reading, parsed}
 use Rattle.table.specs.Calls.{freshRefusal, afterFresh, enter, mergeRefusal, afterMerge}
-use Rattle.log.specs.Items.{settingsOf}
-use Rattle.log.specs.Walk as log
+use Rattle.reader.specs.Items.{settingsOf}
+use Rattle.reader.specs.Walk as log
 use Rattle.log.specs.Loading.{startRefusal, load}
 use Rattle.log.specs.Theorems.{items, before}
 

@@ -10,12 +10,12 @@ use Rattle.table.specs.Table.{Table}
 use Rattle.table.specs.Reading.{readingAt, refusal}
 use Rattle.table.specs.Calls.{enterAll, fresh, freshRefusal}
 use Rattle.table.specs.Inner.{Ranged}
-use Rattle.log.specs.Bytes.{byteAt}
-use Rattle.log.specs.Kinds.{kindOf, bodyLength, isListed, isSettings, ofDimension}
-use Rattle.log.specs.declared.kinds.Kind.{Kind}
-use Rattle.log.specs.declared.items.Item.{Item}
-use Rattle.log.specs.declared.items.Item.the-variants.{Reading, Query, End, Refused}
-use Rattle.log.specs.Items.{settingsOf, placed, itemAt, numberOf, valuesOf}
+use Rattle.reader.specs.Bytes.{byteAt}
+use Rattle.reader.specs.Kinds.{kindOf, bodyLength, isListed, isSettings, ofDimension}
+use Rattle.reader.specs.declared.kinds.Kind.{Kind}
+use Rattle.reader.specs.declared.items.Item.{Item}
+use Rattle.reader.specs.declared.items.Item.the-variants.{Reading, Query, End, Refused}
+use Rattle.reader.specs.Items.{settingsOf, placed, itemAt, numberOf, valuesOf}
 use Rattle.log.specs.Loading.{Load, notStarted, load}
 use Rattle.log.specs.Theorems.{items, tableOf, Place, before}
 use Rattle.report.specs.Report.{most-bytes, most-points, refusedLine, tableText, report}

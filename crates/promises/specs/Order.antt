@@ -21,8 +21,8 @@ use Rattle.listing.specs.Order.{before}
 use Rattle.listing.specs.Listing.{listed}
 use Rattle.filter.specs.Answer.{code, answer}
 use Rattle.filter.specs.Theorems.{SameAnswer}
-use Rattle.log.specs.Items.{settingsOf}
-use Rattle.log.specs.Walk as log
+use Rattle.reader.specs.Items.{settingsOf}
+use Rattle.reader.specs.Walk as log
 use Rattle.log.specs.Loading.{load}
 use Rattle.log.specs.Theorems.{items}
 use Rattle.report.specs.Report.{most-bytes, settingsRefusal, report}

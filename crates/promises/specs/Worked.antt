@@ -11,7 +11,7 @@ use Rattle.table.specs.Worked.{bothReadings}
 use Rattle.listing.specs.Listing.{listed}
 use Rattle.filter.specs.Answer.{answer}
 use Rattle.filter.specs.Worked.{near}
-use Rattle.log.specs.Worked.{workedLog}
+use Rattle.reader.specs.Worked.{workedLog}
 use Rattle.log.specs.Loading.{load}
 use Rattle.promises.specs.History.{History, starting, entering, merging, loading, settingsIn, run, Begun, NoneRefused}
 

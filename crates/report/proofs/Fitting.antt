@@ -16,10 +16,10 @@ use Rattle.table.specs.Calls.{fresh}
 use Rattle.listing.specs.Listing.{order}
 use Rattle.filter.specs.Answer.{code, answer}
 use Rattle.text.proofs.Theorems.{line-fits}
-use Rattle.log.specs.Items.{settingsOf}
-use Rattle.log.specs.Walk.{Walk, reads, asks, ends, after-settings, walk, queries}
+use Rattle.reader.specs.Items.{settingsOf}
+use Rattle.reader.specs.Walk.{Walk, reads, asks, ends, after-settings, walk, queries}
 use Rattle.log.specs.Loading.{load}
-use Rattle.log.proofs.Walking.{query-count}
+use Rattle.reader.proofs.Walking.{query-count}
 use Rattle.log.proofs.Leaving.{load-settings, load-fine}
 use Rattle.report.specs.Report.{most-bytes, most-points, head-word, point-word, answer-word, refused-word, headLine, pointNumbers, pointLine, pointLines, answerLine, perQuery, tableText, refusedLine, loadedText, settingsRefusal, settledText, report, room}
 use Rattle.report.specs.Inner.{Printable}

@@ -24,7 +24,7 @@ use Rattle.table.specs.Table.{Settings, Table, key, mass, value, whole}
 use Rattle.table.specs.declared.Head.{Head}
 use Rattle.table.proofs.Lists.{tab-snoc}
 use Rattle.table.proofs.Good.{whole-size}
-use Rattle.log.proofs.Filling.{store}
+use Rattle.reader.proofs.Filling.{store}
 use Rattle.text.specs.Text.{line, Written}
 use Rattle.report.specs.Report.{most-bytes, pointNumbers}
 use Rattle.report.specs.Inner.{most-numbers, padded, HeadRoom, StoredIn}

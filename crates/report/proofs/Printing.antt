@@ -15,8 +15,8 @@ use Rattle.table.specs.Heads.{settings, table}
 use Rattle.table.specs.Inner.{Fine}
 use Rattle.text.specs.Text.{Written}
 use Rattle.text.proofs.Lines.{written-then, written-room}
-use Rattle.log.specs.Items.{settingsOf}
-use Rattle.log.specs.Walk.{walk, after-settings}
+use Rattle.reader.specs.Items.{settingsOf}
+use Rattle.reader.specs.Walk.{walk, after-settings}
 use Rattle.log.specs.Loading.{Load, load, Loads}
 use Rattle.log.proofs.Taking.{answered}
 use Rattle.log.proofs.Leaving.{load-offset, load-settings, load-fine}

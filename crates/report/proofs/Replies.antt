@@ -17,16 +17,16 @@ use Rattle.blur.proofs.Sheets.{sheet-length}
 use Rattle.filter.specs.Answer.{code, answer}
 use Rattle.filter.specs.Inner.{ReplyIs}
 use Rattle.filter.proofs.Answers.{smooth, code-same, value-same}
-use Rattle.log.specs.Bytes.{signedAt}
-use Rattle.log.specs.Items.{itemAt, widthOf}
-use Rattle.log.specs.Walk.{Walk, step, after-settings, walk}
-use Rattle.log.specs.Inner.{Inside, padded}
-use Rattle.log.specs.declared.items.Item.{Item}
-use Rattle.log.specs.declared.items.Item.the-variants.{Reading, Query, End, Refused}
-use Rattle.log.proofs.Forms.{Later, Formed}
-use Rattle.log.proofs.Arms.{ItemIn}
-use Rattle.log.proofs.Walking.{walk-step}
-use Rattle.log.proofs.Taking.{partOf, part-is, of-form}
+use Rattle.reader.specs.Bytes.{signedAt}
+use Rattle.reader.specs.Items.{itemAt, widthOf}
+use Rattle.reader.specs.Walk.{Walk, step, after-settings, walk}
+use Rattle.reader.specs.Inner.{Inside, padded}
+use Rattle.reader.specs.declared.items.Item.{Item}
+use Rattle.reader.specs.declared.items.Item.the-variants.{Reading, Query, End, Refused}
+use Rattle.reader.proofs.Forms.{Later, Formed, of-form}
+use Rattle.reader.proofs.Arms.{ItemIn}
+use Rattle.reader.proofs.Walking.{walk-step}
+use Rattle.reader.proofs.Filling.{partOf, part-is}
 use Rattle.text.specs.Text.{Written}
 use Rattle.text.proofs.Lines.{written-nothing, written-then, written-room}
 use Rattle.report.specs.Report.{answerLine, answerLines, perQuery}
@@ -109,42 +109,48 @@ replies-start c t l o a = record { done = []; written = written-nothing o a; who
 
 module _ {c : Settings} {t : Table} {l o : List ℕ} {a next : ℕ} {out : List ℕ} {offset : ℕ} (R : RepliesRoom c t l a (length o))
     (P : Replying c t l o a next out offset) {i : Item} (e : i ≡ itemAt l offset) where
-  -- an item is left
-  module _ (n : widthOf i ≡ 0 → ⊥) where
-    pub item-whole : offset + widthOf i ≤ length l
-    item-whole = whole-item l offset i (P .later) n (of-form l offset i e)
+  module _ {after : ℕ} (k : after ≡ offset + widthOf i) where
+    -- an item is left
+    module _ (n : after ≡ offset → ⊥) where
+      some : widthOf i ≡ 0 → ⊥
+      some z = n (omega (arith, k, z))
 
-    ahead : linesFrom c t l offset ≡ replyText c t l offset i ++ linesFrom c t l (offset + widthOf i)
-    ahead = walk-lines ∙ step-text c t l offset i (walk l (offset + widthOf i)) (P .later) n (of-form l offset i e)
-      where
-        walk-lines : linesFrom c t l offset ≡ perQuery (replyLine c t) (step l offset i (walk l (offset + widthOf i)))
-        walk-lines = ap (perQuery (replyLine c t)) (walk-step l offset ∙ ap (λ (i : Item). step l offset i (walk l (offset + widthOf i))) (sym e))
+      pub nearer : length l - after < length l - offset
+      nearer = omega (arith, whole-item l offset i (P .later) some (of-form l offset i e), k, n)
 
-    all-lines : (P .done ++ replyText c t l offset i) ++ linesFrom c t l (offset + widthOf i) ≡ linesFrom c t l after-settings
-    all-lines = append-assoc (P .done) (replyText c t l offset i) (linesFrom c t l (offset + widthOf i)) ∙ ap (λ (x : List ℕ). P .done ++ x) (sym ahead) ∙ P .whole
+      ahead : linesFrom c t l offset ≡ replyText c t l offset i ++ linesFrom c t l after
+      ahead = rw k (walk-lines ∙ step-text c t l offset i (walk l (offset + widthOf i)) (P .later) some (of-form l offset i e))
+        where
+          walk-lines : linesFrom c t l offset ≡ perQuery (replyLine c t) (step l offset i (walk l (offset + widthOf i)))
+          walk-lines = ap (perQuery (replyLine c t)) (walk-step l offset ∙ ap (λ (i : Item). step l offset i (walk l (offset + widthOf i))) (sym e))
 
-    space-left : a + length (P .done) + length (replyText c t l offset i) ≤ length o
-    space-left = let q = ap length all-lines in omega (arith, rw (length-append, length-append) at q, R .space)
+      all-lines : (P .done ++ replyText c t l offset i) ++ linesFrom c t l after ≡ linesFrom c t l after-settings
+      all-lines = append-assoc (P .done) (replyText c t l offset i) (linesFrom c t l after) ∙ ap (λ (x : List ℕ). P .done ++ x) (sym ahead) ∙ P .whole
 
-    pub reply-room : ReplyRoom c t l offset i next (length out)
-    reply-room = record {
-      smooth = R .smooth;
-      settings-are = R .settings-are;
-      item-is = e;
-      space = written-room (length (replyText c t l offset i)) (P .written) space-left;
-    }
+      space-left : a + length (P .done) + length (replyText c t l offset i) ≤ length o
+      space-left = let q = ap length all-lines in omega (arith, rw (length-append, length-append) at q, R .space)
 
-    pub replies-more : {next′ : ℕ} {out′ : List ℕ} → Written out next (replyText c t l offset i) next′ out′ → Replying c t l o a next′ out′ (offset + widthOf i)
-    replies-more w = record {
-      done = P .done ++ replyText c t l offset i;
-      written = written-then (P .written) w space-left;
-      whole = all-lines;
-      later = omega (arith, P .later);
-    }
+      pub reply-room : ReplyRoom c t l offset i next (length out)
+      reply-room = record {
+        smooth = R .smooth;
+        settings-are = R .settings-are;
+        item-is = e;
+        space = written-room (length (replyText c t l offset i)) (P .written) space-left;
+      }
 
-  -- none is
-  pub replies-end : widthOf i ≡ 0 → Written o a (linesFrom c t l after-settings) next out
-  replies-end z = rw (← P .whole, walk-step l offset, ← e, last-text c t l offset i (walk l (offset + widthOf i)) z, append-nil) (P .written)
+      pub replies-more : {next′ : ℕ} {out′ : List ℕ} → Written out next (replyText c t l offset i) next′ out′ → Replying c t l o a next′ out′ after
+      replies-more w = record {
+        done = P .done ++ replyText c t l offset i;
+        written = written-then (P .written) w space-left;
+        whole = all-lines;
+        later = omega (arith, P .later, k);
+      }
+
+    -- none is
+    pub replies-end : after ≡ offset → Written o a (linesFrom c t l after-settings) next out
+    replies-end y =
+        let z : widthOf i ≡ 0 = omega (arith, k, y) in
+        rw (← P .whole, walk-step l offset, ← e, last-text c t l offset i (walk l (offset + widthOf i)) z, append-nil) (P .written)
 
 -- ---- the answers, by the sheet that the blur leaves
 module _ {c : Settings} {t : Table} {l : List ℕ} {at size : ℕ} (R : AnswersRoom c t l at size) {first second : List ℤ} (B : Blurred c t first second) where

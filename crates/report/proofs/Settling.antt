@@ -12,13 +12,12 @@ use Rattle.table.specs.Calls.{ranged}
 use Rattle.table.specs.Inner.{Ranged}
 use Rattle.table.proofs.Refusals.{first-zero, first-at, passed, failed, T-of}
 use Rattle.table.proofs.Soundness.{to-ranged}
-use Rattle.log.specs.Items.{settingsOf, itemAt, numberOf}
+use Rattle.reader.specs.Items.{settingsOf, itemAt, numberOf}
 use Rattle.log.specs.Loading.{orElse}
-use Rattle.log.specs.declared.items.Item.{Item}
-use Rattle.log.proofs.Forms.{AtStart, Formed}
+use Rattle.reader.specs.declared.items.Item.{Item}
+use Rattle.reader.proofs.Forms.{AtStart, Formed, of-form}
 use Rattle.log.proofs.Leaving.{either-zero}
 use Rattle.log.proofs.Starting.{NoStart, no-start, or-first}
-use Rattle.log.proofs.Taking.{of-form}
 use Rattle.report.specs.declared.Opening.{Opening}
 use Rattle.report.specs.Report.{most-points, settingsRefusal}
 use Rattle.report.specs.Inner.{Opens}

@@ -13,11 +13,11 @@ use Rattle.blur.specs.Blur.{masses, values}
 use Rattle.filter.specs.Answer.{codeBy, valueBy}
 use Rattle.filter.specs.Inner.{Smooth}
 use Rattle.listing.specs.Listing.{order}
-use Rattle.log.specs.Items.{settingsOf, itemAt, valuesOf}
-use Rattle.log.specs.Walk.{after-settings, walk}
+use Rattle.reader.specs.Items.{settingsOf, itemAt, valuesOf}
+use Rattle.reader.specs.Walk.{after-settings, walk}
 use Rattle.log.specs.Loading.{load}
-use Rattle.log.specs.declared.items.Item.{Item}
-use Rattle.log.specs.declared.items.Item.the-variants.{Reading, Query, End, Refused}
+use Rattle.reader.specs.declared.items.Item.{Item}
+use Rattle.reader.specs.declared.items.Item.the-variants.{Reading, Query, End, Refused}
 use Rattle.report.specs.declared.Opening.{Opening}
 use Rattle.report.specs.Report.{most-bytes, most-points, room, headLine, pointNumbers, pointLine, pointLines, answerLine, answerLines, perQuery, tableText, settingsRefusal, refusedLine, loadedText}
 

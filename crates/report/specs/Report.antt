@@ -12,8 +12,8 @@ use Rattle.table.specs.Table.{Settings, Table, key, mass, value, whole}
 use Rattle.table.specs.Calls.{ranged, fresh}
 use Rattle.listing.specs.Listing.{order}
 use Rattle.filter.specs.Answer.{code, answer}
-use Rattle.log.specs.Items.{settingsOf, itemAt, numberOf}
-use Rattle.log.specs.Walk.{Walk, reads, asks, ends, after-settings, walk}
+use Rattle.reader.specs.Items.{settingsOf, itemAt, numberOf}
+use Rattle.reader.specs.Walk.{Walk, reads, asks, ends, after-settings, walk}
 use Rattle.log.specs.Loading.{Load, orElse, load}
 use Rattle.text.specs.Text.{line}
 

@@ -3,7 +3,7 @@ use mathlib.Core.Path.{_≡_}
 use mathlib.Core.List.{List, [], _∷_, _++_}
 use Prim.Native.Nat.{ℕ}
 use lib.ListN.{take, set}
-use Rattle.log.specs.Worked.{settingsItem, readingItems, queryItems, workedLog}
+use Rattle.reader.specs.Worked.{settingsItem, readingItems, queryItems, workedLog}
 use Rattle.report.specs.Report.{report}
 
 -- HEAD 1 2 2 2

@@ -1,7 +1,7 @@
 // The lines of a log's queries, in their order, answered over all of its readings.
 ghost use lib.ListN.{length};
 ghost use Rattle.table.specs.Heads.{settings, table};
-ghost use Rattle.log.specs.Walk.{after-settings, walk};
+ghost use Rattle.reader.specs.Walk.{after-settings, walk};
 ghost use Rattle.text.specs.Text.{Written};
 ghost use Rattle.report.specs.Report.{answerLines, perQuery};
 ghost use Rattle.report.specs.Inner.{replyLine, replyText, ReplyRoom, RepliesRoom, AnswersRoom};
@@ -9,11 +9,10 @@ use crate::MOST_POINTS;
 use crate::lines::put_answer;
 use blur::blur;
 use filter::reply::reply_at;
-use log::AFTER_SETTINGS;
-use log::bytes::numbers_at;
-use log::items::Item;
-use log::items::item_at;
-use log::items::width_of;
+use reader::AFTER_SETTINGS;
+use reader::bytes::numbers_at;
+use reader::items::Item;
+use reader::read_at;
 use table::Head;
 
 // One item: the line of a query, and nothing for a reading.
@@ -64,13 +63,13 @@ fn put_replies(
     let mut next = at;
     let mut offset = AFTER_SETTINGS;
     loop {
-        let item = item_at(log, offset);
-        let width = width_of(item);
-        if width == 0 {
+        let found = read_at(log, offset);
+        if found.next == offset {
             break;
         }
+        let item = found.item;
         next = put_reply(out, next, head, keys, index, sheet, log, offset, item);
-        offset = offset + width;
+        offset = found.next;
     }
     next
 }

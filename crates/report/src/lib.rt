@@ -20,10 +20,10 @@ use crate::points::put_points;
 use lattice::limits::MOST_D;
 use lattice::refusals::PROGRAM_LIMIT;
 use lattice::refusals::SETTINGS_OUT_OF_RANGE;
-use log::items::Item;
-use log::items::item_at;
-use log::items::number_of;
 use log::load;
+use reader::items::Item;
+use reader::items::number_of;
+use reader::read_at;
 use table::Head;
 use table::settings::in_range;
 
@@ -56,7 +56,8 @@ fn refused_opening(number: u8) -> Opening
 fn opening_of(log: &[u8]) -> Opening
     ensures { λ r. ⌜ Opens (now (log .entry)) r ⌝ }
 {
-    let item = item_at(log, 0);
+    let first = read_at(log, 0);
+    let item = first.item;
     let Item::Settings {
         d,
         fineness,
