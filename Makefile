@@ -13,4 +13,4 @@ test:
 
 bench:
 	rt staticlib export
-	cd rust && cargo run --release --offline --locked --package bench
+	cd rust && PATH="$$PATH:$$HOME/.cargo/bin" cargo run --release --offline --locked --package bench

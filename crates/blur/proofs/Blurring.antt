@@ -8,7 +8,7 @@ use lib.ListN.{length, take, replicate, length-replicate}
 use Rattle.whole.specs.Size.{Abs≤}
 use Rattle.whole.specs.Lists.{at, splice}
 use Rattle.lattice.specs.Limits.{most-d, farthest-point}
-use Rattle.table.specs.Table.{Settings, Table, Row, key, row}
+use Rattle.table.specs.Table.{Settings, Table, Row, row}
 use Rattle.table.specs.Sound.{Good}
 use Rattle.table.proofs.Good.{kept-at}
 use Rattle.table.proofs.Soundness.{of-fine}

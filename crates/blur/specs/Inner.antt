@@ -14,7 +14,7 @@ use Rattle.table.specs.Inner.{Ranged, Shape, Fine}
 use Rattle.blur.specs.Blur.{plusStep, minusStep, pass, isStored, masses, values}
 use Rattle.blur.specs.Sheet.{sheet, blurredSheet, clearSheet}
 
--- the greatest value sum of a table, and what six passes make of it: "4^6·384·4,096·1,000,000"
+-- the greatest value sum of a table, and what six passes make of it: 4^6·384·4,096·1,000,000
 abbrev pub most-sum : ℕ
 most-sum = most-value * (most-W * most-readings)
 

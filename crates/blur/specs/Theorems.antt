@@ -16,14 +16,14 @@ use Rattle.table.specs.Theorems.{Usable}
 use Rattle.blur.specs.Blur.{step, plusStep, minusStep, pass, passes, isStored, massAfter, valueAfter}
 use Rattle.blur.specs.Sheet.{withSums, sheetAfter}
 
--- the key of point plus step is that of the lattice point with the step added at each of its d+1 places,
+-- point plus step and point minus step, told by their keys: lattice points again, moved by the step at each of the d+1 places
 pub record Steps (d k : ℕ) (y : List ℤ) : Type 0 where
   pub plus-point : Point d (whole (plusStep d k y))
   pub plus-at : (i : ℕ) → i < suc d → at (whole (plusStep d k y)) i ≡ at (whole y) i +ℤ step d k i
   pub minus-point : Point d (whole (minusStep d k y))
   pub minus-at : (i : ℕ) → i < suc d → at (whole (minusStep d k y)) i +ℤ step d k i ≡ at (whole y) i
 
--- and so it is for point minus step
+-- Statement: so it is with every lattice point and the step of every pass
 abbrev pub StepsAreLattice : Type 0
 StepsAreLattice = (d k : ℕ) → k < suc d → (y : List ℤ) → length y ≡ d → Point d (whole y) → Steps d k y
 

@@ -57,7 +57,7 @@ fn show_answers(head: Head, keys: &[i32], sums: &[i64], index: &[u16], queries: 
     print_answers(&values, &codes);
 }
 
-// Readings entered into a fresh table of 8 places, and five queries answered.
+// Readings entered into a fresh table of capacity 8, and five queries answered.
 pub fn show_filtered(readings: &[i32], queries: &[i32], fineness: u32) {
     let mut keys = [0i32; 8];
     let mut sums = [0i64; 16];

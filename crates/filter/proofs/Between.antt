@@ -1,7 +1,7 @@
 -- Every value entered lies between lo and hi: so then does each value sum between lo and hi times its mass, from a fresh table on.
 use mathlib.Core.Path.{_≡_, refl, sym, ap, _∙_, subst}
 use mathlib.Core.List.{List}
-use Prim.Native.Nat.{ℕ, zero, suc, _+_, _*_, _%_, _<_}
+use Prim.Native.Nat.{ℕ, zero, suc, _+_, _%_, _<_}
 use lib.Dec.{eqb}
 use lib.IntN.{ℤ, *ℤ-zero, pos, _*ℤ_}
 use lib.ListN.{length, take}

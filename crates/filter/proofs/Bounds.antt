@@ -2,7 +2,7 @@
 -- sheet of blurred pairs: "384·4,096·1,000,000·4^6·384 is below 2.5·10^18".
 use mathlib.Core.Path.{_≡_, refl, sym, ap₂, _∙_}
 use mathlib.Core.List.{List, [], _∷_}
-use Prim.Native.Nat.{ℕ, _+_, _*_}
+use Prim.Native.Nat.{ℕ, _*_}
 use native.Mathlib.Omega.{arith}
 use lib.IntN.{ℤ, *ℤ-zero, pos, negℤ, _+ℤ_, _*ℤ_}
 use lib.ListN.{take}

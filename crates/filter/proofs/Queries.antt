@@ -1,14 +1,14 @@
 -- The queries one after the other: where each stands in the list, and what holds when so many are answered.
 use mathlib.Core.Path.{_≡_, ap, subst, _∙_}
 use mathlib.Core.List.{List}
-use Prim.Native.Nat.{ℕ, suc, _+_, _*_, _-_, _/_, _≤_, _<_}
-use native.Mathlib.Nat.{mul-le-mul-left, div-add-mod, div-le-self, not-suc-le-zero}
+use Prim.Native.Nat.{ℕ, _+_, _*_, _-_, _/_, _≤_, _<_}
+use native.Mathlib.Nat.{div-le-self, not-suc-le-zero}
 use native.Mathlib.Numerals.{add-one}
 use native.Mathlib.Omega.{arith}
 use lib.IntN.{ℤ, pos}
 use lib.ListN.{length, getD, set, take, drop, length-set}
 use Rattle.whole.specs.Lists.{at, tab}
-use Rattle.whole.proofs.Lists.{part-tab, tab-is, place-more}
+use Rattle.whole.proofs.Lists.{part-fits, part-tab, tab-is, place-more}
 use Rattle.table.specs.Table.{Settings, Table}
 use Rattle.blur.specs.Blur.{masses, values}
 use Rattle.filter.specs.Answer.{codeBy, valueBy}
@@ -17,7 +17,7 @@ use Rattle.filter.specs.Inner.{ReplyIs, Answerable, RepliesAre}
 
 -- ---- where they stand: query j starts at (d + 1)·j
 pub query-fits : (d n j : ℕ) → j < n / (d + 1) → (d + 1) * j + (d + 1) ≤ n
-query-fits d n j l = let h : (d + 1) * suc j ≤ (d + 1) * (n / (d + 1)) = mul-le-mul-left (d + 1) l in omega (arith, h, div-add-mod n (d + 1))
+query-fits d n j l = part-fits (d + 1) n j l
 
 pub fewer : (d n j : ℕ) → j < n / (d + 1) → j < n
 fewer d n j l = omega (arith, l, div-le-self n (d + 1))

@@ -24,7 +24,7 @@ use Rattle.filter.proofs.Weighing.{weighted-over, meets-ones, weights-l
 use Rattle.filter.proofs.Coding.{by-position, by-points}
 
 -- the value is 0 beside any number but 0
-beside-none : (x : ℕ) (v : ℤ) → (x ≡ 0 → ⊥) → beside x v ≡ pos 0
+pub beside-none : (x : ℕ) (v : ℤ) → (x ≡ 0 → ⊥) → beside x v ≡ pos 0
 beside-none zero v h = absurd (h refl)
 beside-none (suc x) v h = refl
 

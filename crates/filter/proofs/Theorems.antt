@@ -25,7 +25,7 @@ use Rattle.lattice.specs.Position.{Judged, judged}
 use Rattle.lattice.proofs.Judging.{judged-right}
 use Rattle.index.specs.Keys.{eqZ}
 use Rattle.index.proofs.Equality.{eqZ-eq}
-use Rattle.table.specs.Table.{Settings, Table, key, mass, held}
+use Rattle.table.specs.Table.{Settings, Table, key, held}
 use Rattle.table.specs.Inner.{Fine}
 use Rattle.table.specs.Theorems.{Usable}
 use Rattle.table.proofs.Soundness.{to-fine}

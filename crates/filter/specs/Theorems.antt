@@ -34,7 +34,7 @@ CodedRight = (c : Settings) (t : Table) → Usable c t → (q : List ℤ) → le
 abbrev pub NeverEleven : Type 0
 NeverEleven = (c : Settings) (t : Table) → Usable c t → (q : List ℤ) → code c t q ≡ no-mass-met → ⊥
 
--- every value entered lies between lo and hi: then each value sum of the table lies between lo and hi times its mass. So it is in a fresh table,
+-- each value sum of the table lies between lo and hi times its mass, as it does where every value entered lies between lo and hi. So it is in a fresh table,
 abbrev pub ValuesBetween : ℤ → ℤ → Settings → Table → Type 0
 ValuesBetween lo hi c t = Between lo hi (masses c t) (values c t)
 

@@ -17,7 +17,7 @@ near = pos 4 ∷ negsuc 3 ∷ []
 abbrev pub far : List ℤ
 far = pos 100 ∷ negsuc 99 ∷ []
 
--- "ANSWER 7 0 · ANSWER 0 10"
+-- "ANSWER 7 0", "ANSWER 0 10"
 pub record AnswerCases : Type 0 where
   pub value-sum : weighted (ofLog 8) logTable (blurredValue (ofLog 8) logTable) between ≡ pos 1008
   pub mass-sum : weighted (ofLog 8) logTable (blurredMass (ofLog 8) logTable) between ≡ pos 144

@@ -2,8 +2,10 @@
 use mathlib.Core.Path.{_≡_, refl, ap, ap₂, sym, subst, _∙_}
 use mathlib.Core.List.{List, [], _∷_}
 use mathlib.Core.Bool.{Bool, true, false, _&&_}
-use Prim.Native.Nat.{ℕ, _+_, _-_, _*_, _<_, _≤_}
+use Prim.Native.Nat.{ℕ, suc, _+_, _-_, _*_, _<_, _≤_}
+use native.Mathlib.Nat.{mul-le-mul-left}
 use native.Mathlib.Numerals.{add-one}
+use native.Mathlib.Omega.{arith}
 use lib.Dec.{T, eqb, eqb→eq, eqb-refl}
 use lib.ListN.{length, take, drop, drop-of-length-le}
 use lib.Seq.{drop-cons}
@@ -66,6 +68,10 @@ same-lengths a b h = sym (T-false (same a b) (λ t. h (ap length (same-eq a b t)
 pub keyAt-length : (d : ℕ) (keys : List ℤ) (i : ℕ) → length (keyAt d keys i) ≡ d
 unfolding keyAt
 keyAt-length d keys i = length-tab d (λ j. at keys (d * i + j))
+
+-- it lies within the keys, where there are m
+pub stretch-fits : (d i m k : ℕ) → i < m → d * m ≤ k → d * i + d ≤ k
+stretch-fits d i m k l h = let n : d * suc i ≤ d * m = mul-le-mul-left d l in omega arith
 
 -- a part from a to a + d, as the code lends it
 pub key-part : (d : ℕ) (keys : List ℤ) (i : ℕ) → d * i + d ≤ length keys → take (d * i + d - d * i) (drop (d * i) keys) ≡ keyAt d keys i

@@ -168,20 +168,21 @@ module _ (d S : ℕ) (p : 0 < S) (x : List ℤ) where
       U = upto d S p x (suc d)
 
   module _ (ps : List (List ℤ)) (R : Points d S x ps) where
+    -- no two have one remainder
+    pub remainder-once : (m m′ : ℕ) → m < length ps → m′ < length ps → remainderOf d (at (getD ps m [])) ≡ remainderOf d (at (getD ps m′ [])) → m ≡ m′
+    remainder-once m m′ k k′ e = go (decLt m m′) (decLt m′ m)
+      where
+        go : Dec (m < m′) → Dec (m′ < m) → m ≡ m′
+        go (yes h) b = absurd (omega (arith, e, R .asc m m′ h k′))
+        go (no h) (yes g) = absurd (omega (arith, e, R .asc m′ m g k))
+        go (no h) (no g) = omega arith
+
     ys : ℕ → ℕ → ℤ
     ys m = at (getD ps m [])
 
     once : (m m′ : ℕ) → m < length ps → m′ < length ps → ((i : ℕ) → i < suc d → ys m i ≡ ys m′ i) → m ≡ m′
     unfolding ys
-    once m m′ k k′ e = go (decLt m m′) (decLt m′ m)
-      where
-        same : remainderOf d (ys m) ≡ remainderOf d (ys m′)
-        same = ap (λ (z : ℤ). remainder z (suc d)) (e 0 (omega arith))
-
-        go : Dec (m < m′) → Dec (m′ < m) → m ≡ m′
-        go (yes h) b = absurd (omega (arith, same, R .asc m m′ h k′))
-        go (no h) (yes g) = absurd (omega (arith, same, R .asc m′ m g k))
-        go (no h) (no g) = omega arith
+    once m m′ k k′ e = remainder-once m m′ k k′ (ap (λ (z : ℤ). remainder z (suc d)) (e 0 (omega arith)))
 
     every : (y : ℕ → ℤ) → Lattice (suc d) y → 0 < weight d S (at x) y → (m : ℕ) × (m < length ps) × ((i : ℕ) → i < suc d → ys m i ≡ y i)
     unfolding ys

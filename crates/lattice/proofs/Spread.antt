@@ -142,14 +142,11 @@ shift-spread n a f s c e R = record {
 
 module _ (d S : ℕ) (x y : ℕ → ℤ) (b : ℕ) (q : b < suc d) where
   pub win : Window (suc d) (suc d * S) (off S x y b) (spread d (residual S x y))
-  win = window (suc d) (suc d * S) (off S x y b) (spread d (residual S x y)) b q (lin0 (x b) (y b) S)
+  win = window (suc d) (suc d * S) (off S x y b) (spread d (residual S x y)) b q (lin0 S (x b) (y b))
       (shift-spread (suc d) (off S x y b) (residual S x y) (spread d (residual S x y)) (residual S x y b) (λ i. lin (x i) (x b) (y i) (y b) (pos S)) (spread-is d (residual S x y)))
     where
-      lin0′ : (S : ℕ) (x y : ℤ) → x -ℤ x -ℤ pos S *ℤ (y -ℤ y) ≡ pos 0
-      lin0′ S = on _ λ a b. on _ λ c d. simp difs (omega ints)
-
-      lin0 : (x y : ℤ) (S : ℕ) → x -ℤ x -ℤ pos S *ℤ (y -ℤ y) ≡ pos 0
-      lin0 x y S = lin0′ S x y
+      lin0 : (S : ℕ) (x y : ℤ) → x -ℤ x -ℤ pos S *ℤ (y -ℤ y) ≡ pos 0
+      lin0 S = on _ λ a b. on _ λ c d. simp difs (omega ints)
 
       lin : (a b c d s : ℤ) → a -ℤ s *ℤ c ≡ a -ℤ b -ℤ s *ℤ (c -ℤ d) +ℤ (b -ℤ s *ℤ d)
       lin = on _ λ a b. on _ λ c d. on _ λ e f. on _ λ g h. on _ λ i j. simp difs (omega ints)

@@ -1,4 +1,4 @@
--- The limits of document 01's "Settings and sizes", each once.
+-- The limits of document 01's "Settings and sizes" and "Finding a point", each once.
 use Prim.Native.Nat.{ℕ}
 
 -- "Dimension d: 1 to 5."

@@ -3,7 +3,6 @@ use mathlib.Core.Path.{_≡_, refl, sym, ap, ap₂, subst, _∙_}
 use mathlib.Core.Bool.{Bool, true, false, cond}
 use mathlib.Core.List.{List, [], _∷_, _++_}
 use Prim.Native.Nat.{ℕ, zero, suc, _+_, _*_, _-_, _^_, _≤_, _<_}
-use native.Mathlib.Nat.{le-refl, mul-le-mul}
 use native.Mathlib.Omega.{arith}
 use lib.Dec.{eqb}
 use lib.IntN.{ℤ}
@@ -24,7 +23,7 @@ use Rattle.table.proofs.Turns.{pour-turn, holds-of, holds-at}
 use Rattle.pour.specs.Inner.{oneIfNew}
 use Rattle.index.specs.Keys.{keyAt}
 use Rattle.index.specs.Search.{entryAt, search}
-use Rattle.index.proofs.Equality.{keyAt-length, key-part}
+use Rattle.index.proofs.Equality.{keyAt-length, stretch-fits, key-part}
 use Rattle.merge.specs.Source.{sourceRow, firstRows, Stretch, Stretches}
 
 -- all of them are those of the table, where its dimension is d
@@ -33,7 +32,7 @@ unfolding rows firstRows
 rows-all d b s e = ap (λ (d : ℕ). tab (s .m) (sourceRow d (s .keys) (s .sums))) (sym e)
 
 pub stretch-of : (d : ℕ) (keys : List ℤ) (m i : ℕ) → Stretches d keys m → i < m → Stretch d keys i
-stretch-of d keys m i L l = record { d-most = L .d-most; few = omega (arith, L .few); inside = omega (arith, L .inside, mul-le-mul (le-refl d) l) }
+stretch-of d keys m i L l = record { d-most = L .d-most; few = omega (arith, L .few); inside = stretch-fits d i m (length keys) l (L .inside) }
 
 -- the stretch of row i is its key
 pub stretch-is : (d : ℕ) (keys : List ℤ) (i : ℕ) → Stretch d keys i → take (d * i + d - d * i) (drop (d * i) keys) ≡ keyAt d keys i

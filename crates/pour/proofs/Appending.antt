@@ -1,10 +1,9 @@
 -- Appending a row: its stretch lies within the lent keys, and the three stores make the table that is meant.
 use mathlib.Core.Path.{_≡_, ap, ap₂, _∙_}
 use mathlib.Core.List.{List}
-use Prim.Native.Nat.{ℕ, _+_, _*_, _≤_, _<_}
-use native.Mathlib.Nat.{le-refl, mul-le-mul}
+use Prim.Native.Nat.{ℕ, _+_, _*_, _≤_}
+use native.Mathlib.Nat.{le-refl}
 use native.Mathlib.Numerals.{add-one}
-use native.Mathlib.Omega.{arith}
 use lib.IntN.{ℤ}
 use lib.ListN.{length, set}
 use mir.Syntax.{w64}
@@ -12,17 +11,14 @@ use mir.Val.{SFits}
 use mir.Facts.{toZ-ofZ}
 use Rattle.whole.specs.Lists.{splice}
 use Rattle.whole.proofs.Readings.{W64}
+use Rattle.index.proofs.Equality.{stretch-fits}
 use Rattle.table.specs.Table.{Settings, Table, Row}
 use Rattle.table.specs.Heads.{Holds}
 use Rattle.table.specs.Pour.{setPair, append}
 use Rattle.pour.specs.Inner.{Appendable}
 
--- one stretch more where there is room for a point
-more : (d m C : ℕ) → m < C → d * m + d ≤ d * C
-more d m C h = omega (arith, mul-le-mul (le-refl d) h)
-
 pub stretch-in : (c : Settings) (t : Table) (p : ℕ) (r : Row) → Appendable c t p r → length (r .key) * t .m + length (r .key) ≤ length (t .keys)
-stretch-in c t p r A = rw (A .size, A .shape .keys) (more (c .d) (t .m) (c .C) (A .room))
+stretch-in c t p r A = rw (A .size, A .shape .keys) (stretch-fits (c .d) (t .m) (c .C) _ (A .room) (le-refl _))
 
 -- the table after the three stores; the pair is passed on in 64 bits
 pub appended : (c : Settings) (t : Table) (p : ℕ) (r : Row) → Appendable c t p r → SFits w64 (r .mass) → SFits w64 (r .value) → {keys sums : List ℤ}

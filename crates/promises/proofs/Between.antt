@@ -14,8 +14,8 @@ use Rattle.lattice.specs.Weight.{geZ, greatest, least, weight}
 use Rattle.lattice.proofs.Spread.{best-is}
 use Rattle.table.specs.Table.{Settings, Table, key, mass, value, whole}
 use Rattle.table.specs.Reading.{Reading}
+use Rattle.table.proofs.Lists.{all-list}
 use Rattle.table.proofs.Soundness.{of-fine}
-use Rattle.listing.proofs.Rising.{at-all}
 use Rattle.blur.proofs.Stored.{fine-readable, every-pair}
 use Rattle.filter.specs.Answer.{code, answer}
 use Rattle.filter.proofs.Between.{Bounded, bounded-zero, bounded-plus, bounded-share, all-between}
@@ -32,7 +32,7 @@ greatest-above : (d : ℕ) (f : ℕ → ℤ) (i : ℕ) → i < suc d → f i ≤
 greatest-above d f i l = let (h, k, e, u) = best-is leZ leZ-refl leZ-trans leZ-flip d f in rw e (leZ-yes (u i l))
 
 values-within : (rs : List Reading) → All (λ r. Within (leastIn rs) (greatestIn rs) (r .value)) rs
-values-within rs = at-all (λ r. Within (leastIn rs) (greatestIn rs) (r .value)) rs none each
+values-within rs = all-list (λ r. Within (leastIn rs) (greatestIn rs) (r .value)) rs none each
   where
     none : Reading
     none = record { place = []; value = pos 0 }

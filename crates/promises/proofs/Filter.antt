@@ -28,7 +28,8 @@ use Rattle.table.proofs.Keeping.{acceptable-pours, reading-acceptable, entered-
 use Rattle.table.proofs.Theorems.{search-finds, enter-keeps, enter-adds, stored-exactly}
 use Rattle.blur.specs.Blur.{pass, passes, isStored, massAfter, valueAfter, blurredMass, blurredValue}
 use Rattle.blur.proofs.Theorems.{masses-low, sheet-holds}
-use Rattle.filter.specs.Answer.{weighted, beside, valueBy, code}
+use Rattle.filter.specs.Answer.{weighted, valueBy, code}
+use Rattle.filter.proofs.Replying.{beside-none}
 use Rattle.filter.proofs.Theorems.{mass-sum-above, answered, value-given}
 use Rattle.promises.specs.Filter.{EntersEachReading, Passed, BlursEachPoint, Answered, AnswersEachQuery}
 
@@ -100,13 +101,9 @@ blurs-each-point c t U = record {
 }
 
 -- ---- answering
-beside-code : (x : ℕ) (value : ℤ) → (x ≡ 0 → ⊥) → beside x value ≡ pos 0
-beside-code zero value h = absurd (h refl)
-beside-code (suc x) value h = refl
-
 pub answers-each-query : AnswersEachQuery
 unfolding valueBy
-answers-each-query c t U q = record { given = given; beside = beside-code (code c t q) (rounded num (natAbs den)) }
+answers-each-query c t U q = record { given = given; beside = beside-none (code c t q) (rounded num (natAbs den)) }
   where
     num : ℤ
     num = weighted c t (blurredValue c t) q

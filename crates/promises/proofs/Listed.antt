@@ -14,7 +14,7 @@ use Rattle.lattice.specs.Weight.{weight}
 use Rattle.table.specs.Table.{Settings, Table, Row, key, row, whole, found}
 use Rattle.table.specs.Reading.{Reading}
 use Rattle.table.specs.Theorems.{Usable}
-use Rattle.table.proofs.Lists.{all-map, each-map}
+use Rattle.table.proofs.Lists.{each-list, all-map, each-map}
 use Rattle.table.proofs.Rows.{row-eq}
 use Rattle.table.proofs.Good.{whole-size, key-whole}
 use Rattle.table.proofs.Soundness.{of-fine}
@@ -22,7 +22,7 @@ use Rattle.table.proofs.Theorems.{search-finds, stored-exactly}
 use Rattle.listing.specs.Order.{before}
 use Rattle.listing.specs.Listing.{order, listed}
 use Rattle.listing.proofs.KeyOrder.{before-irr, before-trans}
-use Rattle.listing.proofs.Rising.{all-at, all-imp, at-each}
+use Rattle.listing.proofs.Rising.{all-at, all-imp}
 use Rattle.listing.proofs.Listings.{ordered-perm, order-low, order-lists}
 use Rattle.promises.specs.Order.{massFrom, valueFrom, RowFrom, ListedFrom}
 use Rattle.promises.proofs.Histories.{Built}
@@ -113,7 +113,7 @@ module _ (c : Settings) (t : Table) (rs : List Reading) (B : Built c t rs) where
     each = all-map (RowFrom (c .d) (c .S) rs) (row c t) (order c t)
         (all-imp (λ i. i < t .m) (λ i. RowFrom (c .d) (c .S) rs (row c t i)) (order c t) (row-from c t rs B) (order-low c t));
     ascending = each-map (λ a b. Before (a .key) (b .key)) (row c t) (order c t)
-        (at-each (λ i j. Before (key c t i) (key c t j)) (order c t) 0 (order-lists c t usable .ascending));
+        (each-list (λ i j. Before (key c t i) (key c t j)) (order c t) 0 (order-lists c t usable .ascending));
     full = λ y Y h.
         let (i, l, e) = stored y Y h in
         let (j, k, q) = order-has c t i l in

@@ -1,19 +1,19 @@
 -- The readings of a log have one coordinate more than its dimension, as those of a list have.
-use mathlib.Core.Path.{_≡_, ap, _∙_}
+use mathlib.Core.Path.{_≡_}
 use mathlib.Core.Bool.{Bool, true, false, cond}
 use mathlib.Core.List.{List, [], _∷_}
-use Prim.Native.Nat.{ℕ, zero, suc, _+_, _*_}
+use Prim.Native.Nat.{ℕ, zero, suc, _+_}
 use lib.Dec.{ltb}
 use lib.ListN.{length}
-use Rattle.whole.specs.Lists.{at, All}
-use Rattle.whole.proofs.Lists.{length-tab}
+use Rattle.whole.specs.Lists.{All}
 use Rattle.table.specs.Reading as table
-use Rattle.reader.specs.Items.{settingsOf, itemAt, valuesOf, widthOf}
+use Rattle.reader.specs.Items.{settingsOf, itemAt, widthOf}
 use Rattle.reader.specs.Walk.{Walk, reads, asks, ends, step, walkFrom, walk, after-settings, readings}
 use Rattle.log.specs.Theorems.{items, before}
 use Rattle.reader.specs.declared.items.Item.{Item}
 use Rattle.reader.specs.declared.items.Item.the-variants.{Reading, Query, End, Refused}
 use Rattle.reader.proofs.Forms.{Formed, formed}
+use Rattle.log.proofs.Leaving.{reading-size}
 
 abbrev pub Sized : ℕ → List table.Reading → Type 0
 Sized d rs = All (λ r. length (r .place) ≡ suc d) rs
@@ -21,7 +21,7 @@ Sized d rs = All (λ r. length (r .place) ≡ suc d) rs
 sized-step : (l : List ℕ) (a : ℕ) (i : Item) (w : Walk) → Formed l a i → Sized (settingsOf l .d) (readings w) → Sized (settingsOf l .d) (readings (step l a i w))
 unfolding readings
 sized-step l a (Item.Settings d S C) w f h = tt
-sized-step l a (Reading d) w f h = (length-tab (suc d) (λ i. at (valuesOf l a (Reading d)) ((d + 2) * 0 + i)) ∙ ap suc (f .d-is), h)
+sized-step l a (Reading d) w f h = (reading-size l a d f, h)
 sized-step l a (Query d) w f h = h
 sized-step l a End w f h = tt
 sized-step l a (Refused x) w f h = tt

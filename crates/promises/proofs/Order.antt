@@ -63,6 +63,7 @@ taken-in-any-order d S h g k j p =
       same-listing = one;
       same-readings = H .counts ∙ length-perm rs qs p ∙ sym (G .counts);
       same-points = H .points ∙ ap length one ∙ sym (G .points);
+      same-total = ap (λ (rows : List Row). over rows massOf) one;
       same-answers = answer-of-map c t b s (H .usable) (G .usable) refl refl
           (λ y. holds-added c t rs (built d S h k) y ∙ added-perm d S rs qs p y ∙ sym (holds-added b s qs (built d S g j) y));
     }

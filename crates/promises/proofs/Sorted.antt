@@ -7,7 +7,8 @@ use native.Mathlib.Nat.{not-suc-le-zero, le-of-suc-le-suc}
 use native.Mathlib.Omega.{arith}
 use lib.ListN.{length, getD}
 use Rattle.whole.specs.Lists.{All, Each}
-use Rattle.listing.proofs.Rising.{all-at, at-all, all-perm}
+use Rattle.table.proofs.Lists.{all-list}
+use Rattle.listing.proofs.Rising.{all-at, all-perm}
 
 module _ {A : Type 0} (z : A) where
   -- a stands in l
@@ -16,7 +17,7 @@ module _ {A : Type 0} (z : A) where
 
   -- so it does in any order of l
   pub has-perm : {l m : List A} → List·Permᴰ l m → (a : A) → Has m a → Has l a
-  has-perm {l} {m} p a (i, h, e) = subst (Has l) e (all-at (Has l) m z (all-perm (Has l) p (at-all (Has l) l z (λ i h. (i, h, refl)))) i h)
+  has-perm {l} {m} p a (i, h, e) = subst (Has l) e (all-at (Has l) m z (all-perm (Has l) p (all-list (Has l) l z (λ i h. (i, h, refl)))) i h)
 
   -- it is the first, or stands in the rest
   first-or : (b : A) (l : List A) (a : A) → Has (b ∷ l) a → (b ≡ a) ⊎ Has l a

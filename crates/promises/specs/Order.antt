@@ -84,6 +84,7 @@ pub record Same (c : Settings) (t : Table) (b : Settings) (s : Table) : Type 0 w
   pub same-listing : listed c t ≡ listed b s
   pub same-readings : t .n ≡ s .n
   pub same-points : t .m ≡ s .m
+  pub same-total : over (listed c t) massOf ≡ over (listed b s) massOf
   pub same-answers : (q : List ℤ) → SameAnswer c t b s q
 
 -- Statement: "any order, any sharing among merged tables", of the same readings taken,
@@ -102,7 +103,7 @@ pub record Printed (l : List ℕ) : Type 0 where
   pub settled : settingsRefusal l ≡ 0
   pub taken : load l (fresh (settingsOf l)) .number ≡ 0
 
--- Statement: and so of what `dyemap` prints: two logs of one d and S with the same readings in any order, and the same queries, print the same bytes
+-- Statement: and so of what `dyemap` prints: two logs of one d and S that are not refused, with the same readings in any order and the same queries, print the same bytes
 abbrev pub PrintedTheSame : Type 0
 PrintedTheSame = (l m : List ℕ) → Printed l → Printed m → settingsOf l .d ≡ settingsOf m .d → settingsOf l .S ≡ settingsOf m .S
     → Perm (log.readings (items l)) (log.readings (items m)) → log.queries (items l) ≡ log.queries (items m) → report l ≡ report m

@@ -1,4 +1,4 @@
--- "Small numbers to check by hand. Marked * are proved.": the starred cases as one table, under one proposition on the definitions.
+-- "Small numbers to check by hand", "Marked * are proved.": the starred cases as one table, under one proposition on the definitions.
 use mathlib.Core.Path.{_≡_}
 use mathlib.Core.List.{List, [], _∷_}
 use Prim.Native.Nat.{ℕ}

@@ -33,7 +33,7 @@ asTables = merging (entering (starting 3 (slices 3)) (pos 2 ∷ negsuc 1 ∷ pos
 abbrev pub asHalfALog : History
 asHalfALog = entering (loading (take 30 workedLog) (slices 8)) (pos 2 ∷ negsuc 1 ∷ pos 4 ∷ [])
 
--- "POINT 1 -1 6 36 · POINT 2 -2 2 20 · ANSWER 7 0"
+-- "POINT 1 -1 6 36", "POINT 2 -2 2 20", "ANSWER 7 0"
 abbrev pub bothPoints : List Row
 bothPoints = record { key = pos 1 ∷ []; mass = pos 6; value = pos 36 } ∷ record { key = pos 2 ∷ []; mass = pos 2; value = pos 20 } ∷ []
 

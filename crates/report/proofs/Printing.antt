@@ -18,7 +18,7 @@ use Rattle.text.proofs.Lines.{written-then, written-room}
 use Rattle.reader.specs.Items.{settingsOf}
 use Rattle.reader.specs.Walk.{walk, after-settings}
 use Rattle.log.specs.Loading.{Load, load, Loads}
-use Rattle.log.proofs.Taking.{answered}
+use Rattle.table.proofs.Calls.{answered}
 use Rattle.log.proofs.Leaving.{load-offset, load-settings, load-fine}
 use Rattle.report.specs.Report.{most-points, headLine, pointLines, answerLines, refusedLine, tableText, loadedText, settledText}
 use Rattle.report.specs.Inner.{countsLine, HeadRoom, RefusedRoom, PointsRoom, AnswersRoom, TableRoom, LentFor, Settled}

@@ -1,4 +1,4 @@
--- What the functions that print a table ask of one another and leave.
+-- What the functions of the report ask of one another and leave.
 use mathlib.Core.Path.{_≡_}
 use mathlib.Core.List.{List, [], _++_}
 use Prim.Native.Nat.{ℕ, _+_, _-_, _≤_, _<_}

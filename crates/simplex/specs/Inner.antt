@@ -87,7 +87,7 @@ pub record StepsFrom (w n : ℕ) (x : ℕ → ℤ) (j : ℕ) (z : List ℤ) (tot
   pub total-is : total ≡ sum n (λ i. floor (x i -ℤ x j) w)
   pub spread-is : spread ≡ pos (peak n (λ i. remainder (x i -ℤ x j) w))
 
--- what keeps a point in 32 bits
+-- what keeps a point in 32 bits: floors of differences of coordinates are within 2·1,000,000 + 1, and the sum of six within six times that
 pub record Span (n : ℕ) (z : List ℤ) (total : ℤ) : Type 0 where
   pub few : n ≤ 6
   pub z-six : length z ≡ 6

@@ -32,8 +32,8 @@ fn put_point(coords: &mut [i32; 36], slot: usize, z: &[i32], total: i32, n: usiz
 }
 
 // The points of weight above 0 for the d + 1 coordinates x at this fineness: the corner of each
-// place, in the slot of its remainder. Places with equal remainders have the same corner, which is
-// then put there again.
+// place, in the slot of its remainder. Places whose coordinates leave equal remainders by W have the
+// same corner, which is then put there again.
 pub fn enclose(x: &[i32], d: usize, fineness: u32) -> Simplex
     requires { ⌜ Placed d fineness (now x) ⌝ }
     ensures { λ r. ⌜ Encloses d fineness (now (x .entry)) (r .weights) (r .coords) ⌝ }

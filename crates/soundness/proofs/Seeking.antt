@@ -1,7 +1,7 @@
 -- The search for the key of a point, in an index whose entries all name a stretch of the keys.
 use mathlib.Core.Path.{_≡_, ap, _∙_}
 use mathlib.Core.List.{List}
-use Prim.Native.Nat.{ℕ, suc, _+_, _*_, _<_, _≤_}
+use Prim.Native.Nat.{ℕ, _+_, _*_, _<_, _≤_}
 use native.Mathlib.Nat.{mul-le-mul, le-refl}
 use native.Mathlib.Decide.{decLt}
 use native.Mathlib.Omega.{arith}
@@ -9,13 +9,9 @@ use lib.IntN.{ℤ}
 use lib.ListN.{length, List·getD-eq-default}
 use Rattle.index.specs.Keys.{keyAt}
 use Rattle.index.specs.Search.{entryAt, search, Searchable}
-use Rattle.index.proofs.Equality.{keyAt-length}
+use Rattle.index.proofs.Equality.{keyAt-length, stretch-fits}
 use Rattle.index.proofs.Finding.{gap, search-lt}
 use Rattle.soundness.specs.Inner.{Findable, placeOf}
-
--- the stretch of point i, where there are m
-pub stretch-in : (d i m k : ℕ) → i < m → d * m ≤ k → d * i + d ≤ k
-stretch-in d i m k l h = let n : suc i ≤ m = l in omega (arith, mul-le-mul (le-refl d) n)
 
 module _ (d C m : ℕ) (keys : List ℤ) (index : List ℕ) (F : Findable d C m keys index) where
   pub named-low : (p : ℕ) → entryAt index p ≤ m
@@ -26,7 +22,7 @@ module _ (d C m : ℕ) (keys : List ℤ) (index : List ℕ) (F : Findable d C m 
       go (no h) = let l : length index ≤ p = omega (arith, F .places, h) in omega (arith, List·getD-eq-default index 0 {n = p} l)
 
   pub room : (i : ℕ) → i < m → d * i + d ≤ length keys
-  room i l = stretch-in d i m (length keys) l (omega (arith, F .stretches, mul-le-mul (le-refl d) (F .sparse .room)))
+  room i l = stretch-fits d i m (length keys) l (omega (arith, F .stretches, mul-le-mul (le-refl d) (F .sparse .room)))
 
   pub searchable : {k : List ℤ} (i : ℕ) → k ≡ keyAt d keys i → Searchable C keys index k
   searchable {k} i e =

@@ -6,7 +6,7 @@ use Prim.Native.Nat.{ℕ, zero, suc, _+_, _-_, _<_}
 use native.Mathlib.Nat.{not-suc-le-zero, le-of-suc-le-suc, eq-or-lt-of-le}
 use native.Mathlib.Omega.{arith}
 use lib.IntN.{ℤ, +ℤ-idr, +ℤ-assoc, _+ℤ_}
-use lib.ListN.{length, getD, set, take}
+use lib.ListN.{length, getD, set}
 use Rattle.whole.specs.Sum.{sum, over}
 use Rattle.whole.specs.Lists.{tab, collect, All, Each}
 use Rattle.whole.proofs.Linear.{on, difs, ints}
@@ -45,11 +45,6 @@ module _ {A : Type 0} where
   tab-self [] n a e = rw (← e)
   tab-self (b ∷ l) zero a e = absurd (omega arith)
   tab-self (b ∷ l) (suc n) a e = ap (λ (l : List A). b ∷ l) (tab-self l n a (omega arith))
-
-  pub take-tab : (n : ℕ) (f : ℕ → A) → take n (tab (suc n) f) ≡ tab n f
-  unfolding tab
-  take-tab zero f = refl
-  take-tab (suc n) f = ap (λ (l : List A). f 0 ∷ l) (take-tab n (λ i. f (suc i)))
 
   -- lists one after the other, cut before one of them
   pub collect-parts : (n : ℕ) (g : ℕ → List A) (k : ℕ) → k < n → (rest : List A) × (collect n g ≡ collect k g ++ (g k ++ rest))

@@ -27,10 +27,6 @@ unfolding pour
 pour-append c t [] b = refl
 pour-append c t (r ∷ a) b = pour-append c (add c t r) a b
 
-pub pour-none : (c : Settings) (t : Table) → pour c t [] ≡ t
-unfolding pour
-pour-none c t = refl
-
 pub pour-snoc : (c : Settings) (t : Table) (a : List Row) (r : Row) → pour c t (a ++ (r ∷ [])) ≡ add c (pour c t a) r
 unfolding pour
 pour-snoc c t a r = pour-append c t a (r ∷ [])

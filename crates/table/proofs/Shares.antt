@@ -5,7 +5,6 @@ use mathlib.Core.Logic.{_⊎_, inl, inr}
 use mathlib.Core.List.{List, [], _∷_, map}
 use Prim.Native.Nat.{ℕ, suc, _+_, _*_, _≤_, _<_}
 use native.Mathlib.Nat.{eq-zero-or-pos, mul-le-mul-left}
-use native.Mathlib.Decide.{decLt}
 use native.Mathlib.Omega.{arith}
 use lib.IntN.{ℤ, zero-*ℤ, pos, negℤ, natAbs, _*ℤ_}
 use lib.Signed.{_≤ℤ_}
@@ -24,7 +23,7 @@ use Rattle.lattice.specs.Lattice.{Point, remainderOf}
 use Rattle.lattice.specs.Weight.{W, weight}
 use Rattle.lattice.specs.Points.{Points, points, weighed}
 use Rattle.lattice.specs.Position.{Position, allNear, sumsToZero}
-use Rattle.lattice.proofs.Points.{exactly-these, all-sum-to-W}
+use Rattle.lattice.proofs.Points.{remainder-once, exactly-these, all-sum-to-W}
 use Rattle.lattice.proofs.Reach.{reach}
 use Rattle.lattice.proofs.Judging.{judged-none, judged-right}
 use Rattle.index.specs.Keys.{same}
@@ -102,15 +101,7 @@ module _ (d S : ℕ) (fine : 0 < S) (r : Reading) where
   spell f = over-map (share d S r) ps f ∙ sym (sum-list ps [] (λ y. f (share d S r y)))
 
   once : (i j : ℕ) → i < length ps → j < length ps → getD ps i [] ≡ getD ps j [] → i ≡ j
-  once i j h l e = order (decLt i j) (decLt j i)
-    where
-      even : remainderOf d (at (getD ps i [])) ≡ remainderOf d (at (getD ps j []))
-      even = ap (λ (z : List ℤ). remainderOf d (at z)) e
-
-      order : Dec (i < j) → Dec (j < i) → i ≡ j
-      order (yes g) b = absurd (omega (arith, even, the .asc i j g l))
-      order (no g) (yes g′) = absurd (omega (arith, even, the .asc j i g′ h))
-      order (no g) (no g′) = omega arith
+  once i j h l e = remainder-once d S fine (r .place) ps the i j h l (ap (λ (z : List ℤ). remainderOf d (at z)) e)
 
   -- one of its points has the key, or none has
   over-at : (f : Row → ℤ) → ((y : List ℤ) → weigh y ≡ 0 → f (share d S r y) ≡ pos 0)

@@ -3,7 +3,7 @@ use mathlib.Core.Path.{_≡_, refl, ap, ap₂, _∙_}
 use mathlib.Core.Logic.{_≢_}
 use mathlib.Core.List.{List, [], _∷_, _++_}
 use Prim.Native.Nat.{ℕ, suc, _+_, _*_, _≤_, _<_}
-use native.Mathlib.Nat.{mul-le-mul-left}
+use native.Mathlib.Nat.{le-refl, mul-le-mul-left}
 use native.Mathlib.Omega.{arith}
 use lib.IntN.{ℤ, pos, _+ℤ_}
 use lib.ListN.{length, set, length-set}
@@ -11,6 +11,7 @@ use lib.Seq.{getD-set-same, getD-set-other}
 use Rattle.whole.specs.Lists.{at, tab, splice}
 use Rattle.whole.proofs.Lists.{tab-cong, length-splice, getD-splice-before, getD-splice-in}
 use Rattle.index.specs.Keys.{keyAt}
+use Rattle.index.proofs.Equality.{stretch-fits}
 use Rattle.table.specs.Table.{Settings, Table, Row, key, mass, value, row, rows, entry}
 use Rattle.table.specs.Pour.{setPair, append, raise}
 use Rattle.table.specs.Inner.{Shape}
@@ -20,7 +21,7 @@ use Rattle.table.proofs.Rows.{row-eq, join}
 -- ---- a key put into its stretch
 module _ (d C i : ℕ) (l k : List ℤ) (size : length l ≡ d * C) (less : i < C) (fit : length k ≡ d) where
   inside : d * i + d ≤ d * C
-  inside = let h : d * suc i ≤ d * C = mul-le-mul-left d less in omega arith
+  inside = stretch-fits d i C (d * C) less (le-refl (d * C))
 
   begins : d * i ≤ length l
   begins = omega (arith, inside)

@@ -1,4 +1,4 @@
--- The calls on tables: what each answers and what it leaves, for every input.
+-- Fresh, enter and merge: what each answers and what it leaves, for every input.
 use mathlib.Core.Bool.{Bool, _&&_}
 use mathlib.Core.List.{List, [], _∷_}
 use Prim.Native.Nat.{ℕ, zero, suc, _+_, _*_, _%_}

@@ -9,7 +9,7 @@ use lib.ListN.{set}
 use Rattle.whole.specs.Lists.{splice}
 use Rattle.table.specs.Table.{Settings, Table, Row, mass, value, seek, found}
 
--- mass and value sum of point i
+-- the sums with w and v as mass and value sum of point i
 unfoldable pub setPair : List ℤ → ℕ → ℤ → ℤ → List ℤ
 setPair sums i w v = set (set sums (2 * i) w) (2 * i + 1) v
 

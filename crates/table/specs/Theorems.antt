@@ -17,7 +17,7 @@ use Rattle.table.specs.Sound.{sound}
 use Rattle.table.specs.Reading.{Reading, refusal, entered}
 use Rattle.table.specs.Calls.{ranged, fits, fresh, enterRefusal, enter, merged, mergeRefusal}
 
--- settings in range, slices of their lengths, and soundness: what every call but fresh asks of a table
+-- settings in range, slices of their lengths, and soundness: a table for which no call is refused with 1, 2 or 3
 pub record Usable (c : Settings) (t : Table) : Type 0 where
   pub in-range : T (ranged c)
   pub lengths : T (fits c t)

@@ -29,7 +29,7 @@ logTable = (afterLog 8 bothReadings) .table
 abbrev pub spoilt : List ℤ → Table
 spoilt sums = record { n = logTable .n; m = logTable .m; keys = logTable .keys; sums = sums; index = logTable .index }
 
--- "HEAD 1 2 2 2 · POINT 1 -1 6 36 · POINT 2 -2 2 20", here in stored order; the home places are those of keys 1 and 2 at C = 8.
+-- "HEAD 1 2 2 2", "POINT 1 -1 6 36", "POINT 2 -2 2 20", here in stored order; the home places are those of keys 1 and 2 at C = 8.
 pub record LogCases : Type 0 where
   pub both-taken : (afterLog 8 bothReadings) .taken ≡ 2
   pub stored-rows : rows (ofLog 8) logTable ≡ record { key = pos 2 ∷ []; mass = pos 2; value = pos 20 } ∷ record { key = pos 1 ∷ []; mass = pos 6; value = pos 36 } ∷ []
@@ -37,7 +37,7 @@ pub record LogCases : Type 0 where
   pub is-sound : sound (ofLog 8) logTable ≡ true
   pub mass-missing : sound (ofLog 8) (spoilt (set (logTable .sums) 0 (pos 1))) ≡ false
 
--- "Only the points that are new count.": the second reading has one point, which is stored already, so two places are enough, and one is not.
+-- "Only the points that are new count.": the second reading has one point, which is stored already, so room for two points is enough, and for one is not.
 pub record RoomCases : Type 0 where
   pub room-for-two : (afterLog 2 bothReadings) .number ≡ 0
   pub room-for-one : (afterLog 1 bothReadings) .number ≡ 8

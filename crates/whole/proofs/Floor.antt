@@ -11,7 +11,7 @@ use Rattle.whole.specs.Size.{P, N, Abs≤}
 use Rattle.whole.specs.Floor.{floor, remainder, DividedBy, DividedOnce, RemainderCases}
 use Rattle.whole.proofs.Parts.{N-neg, le-in, lt-in, zin, zout}
 use Rattle.whole.proofs.Linear.{on, difs, ints}
-use Rattle.whole.proofs.Readings.{zed, zlt, zeq, ole, olt, oeq, sizes}
+use Rattle.whole.proofs.Readings.{zed, zlt, zeq, ole, oeq, sizes}
 use Rattle.whole.proofs.Ring.{le-or-lt, nonneg-N, negative-P}
 
 -- document 01's own numbers, computed
@@ -67,9 +67,6 @@ pub floor-pos : (x d : ℤ) → pos 1 ≤ℤ d → pos 0 ≤ℤ remZ x d → (qu
 floor-pos x (negsuc m) h k = absurd (h .le)
 floor-pos x (pos m) h k = (u .0, sym r ∙ ap pos (u .1))
   where
-    m⁺ : 0 < m
-    m⁺ = omega (arith, le-in (pos 1) (pos m) h)
-
     r : pos (P (remZ x (pos m))) ≡ remZ x (pos m)
     r = omega (arith, zout, nonneg-N k)
 
@@ -120,12 +117,6 @@ floor-ge x lo m h b = ⊎-elim (λ l. l) (λ g. absurd (bad g)) (le-or-lt lo (fl
   where
     bad : floor x m <ℤ lo → ⊥
     bad g = omega (arith, ole b (search zed depth 14) (omega arith), oeq (div-rem x m h) (search zed depth 14) (omega arith), remainder-lt x m h, mul-le-mul-left m (lt-in (floor x m) lo g))
-
-pub floor-lt : (x hi : ℤ) (m : ℕ) → 0 < m → x <ℤ (pos m *ℤ hi) → floor x m <ℤ hi
-floor-lt x hi m h b = ⊎-elim (λ g. absurd (bad g)) (λ l. l) (le-or-lt hi (floor x m))
-  where
-    bad : hi ≤ℤ floor x m → ⊥
-    bad g = omega (arith, olt b (search zed depth 14) (omega arith), oeq (div-rem x m h) (search zed depth 14) (omega arith), mul-le-mul-left m (le-in hi (floor x m) g))
 
 pub remainder-shift : (x k : ℤ) (m : ℕ) → 0 < m → remainder (x +ℤ pos m *ℤ k) m ≡ remainder x m
 remainder-shift x k m h = sym (div-unique (x +ℤ pos m *ℤ k) (floor x m +ℤ k) m (remainder x m) (remainder-lt x m h) (zeq (search zed depth 14) (omega (arith, oeq (div-rem x m h) (search zed depth 14) (omega arith)))) .1)

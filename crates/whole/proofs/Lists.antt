@@ -2,8 +2,8 @@
 use mathlib.Core.Path.{_≡_, refl, ap, ap₂, sym, _∙_}
 use mathlib.Core.Logic.{_≢_}
 use mathlib.Core.List.{List, [], _∷_, _++_, map, map-append, append-nil, append-assoc}
-use Prim.Native.Nat.{ℕ, zero, suc, _+_, _-_, _<_, _≤_}
-use native.Mathlib.Nat.{not-suc-le-zero, le-of-suc-le-suc}
+use Prim.Native.Nat.{ℕ, zero, suc, _+_, _*_, _-_, _/_, _<_, _≤_}
+use native.Mathlib.Nat.{not-suc-le-zero, le-of-suc-le-suc, mul-le-mul-left, div-add-mod}
 use native.Mathlib.Numerals.{add-one}
 use native.Mathlib.Decide.{ℕ-discrete}
 use native.Mathlib.Omega.{arith}
@@ -11,6 +11,10 @@ use lib.ListN.{length, set, take, drop, getD, length-set, length-append, length-
 use lib.Seq.{paste, paste-zero, paste-suc, take-all, drop-drop, length-take-le, getD-take, getD-drop, getD-append-add, getD-set-same, getD-set-other, ext-getD}
 use borrow.Rule.Slice.PartMut.{putMid}
 use Rattle.whole.specs.Lists.{tab, collect, splice}
+
+-- ---- part k of parts of w numbers, of as many as n numbers make
+pub part-fits : (w n k : ℕ) → k < n / w → w * k + w ≤ n
+part-fits w n k l = let h : w * suc k ≤ w * (n / w) = mul-le-mul-left w l in omega (arith, h, div-add-mod n w)
 
 module _ {A : Type 0} where
   -- ---- lists made place by place

@@ -6,11 +6,10 @@
 --     zcast S O                      what `as` from signed to unsigned asks
 --     ole, olt, oeq                  facts a ≤ℤ b, a <ℤ b, a ≡ b as facts of natural numbers, for omega's list
 --     t<, t≥, t≤, t>                 a test that passed or failed, as an order of the numbers that the code means
---     bk, bits-eq, bits-ne           a number and its bits
+--     bits-eq                        two numbers with the same bits
 -- The rulesets: zlin takes a product as an atom, and one with a literal as linear; zed multiplies out; zlow also reads a number that was
--- cast from unsigned; zdeep goes to 20 levels; zord is for numbers that are only passed on and tested. Assumes nothing.
+-- cast from unsigned. Assumes nothing.
 use mathlib.Core.Path.{_≡_, refl, sym, _∙_, ap, ap₂}
-use mathlib.Core.Logic.{_≢_}
 use Prim.Native.Nat.{ℕ, zero, suc, _+_, _*_, _-_, _/_, _%_, _<_, _≤_, _^_}
 use native.Mathlib.Nat.{div-le-self, mod-lt}
 use native.Mathlib.Omega.{arith}
@@ -242,30 +241,6 @@ r-scale′ k n a x = let e = x .r in
       };
     }
 
--- the same under a name of its own, which `zring` makes of a product with a literal
-unfoldable pub scale : ℕ → ℤ → ℤ
-scale n z = pos n *ℤ z
-
-pub scale-same : (n : ℕ) (a b : ℤ) → a ≡ b → scale n a ≡ scale n b
-scale-same n a b e = ap (scale n) e
-
-pub scale-parts : (n : ℕ) (a : ℤ) (p q : ℕ) → P a + q ≡ p + N a → P (scale n a) + n * q ≡ n * p + N (scale n a)
-unfolding scale
-scale-parts n a p q h = scale-is n a p q h
-
-abbrev pub r-scaled : (k : Fuel) (n : ℕ) (a : ℤ) → R k a → R (s k) (scale n a)
-r-scaled k n a x = let e = x .r in
-    record {
-      r = record {
-        v = scale n (e .v);
-        p = n * e .p;
-        n = n * e .n;
-        asks = e .asks;
-        same = λ h. scale-same n a (e .v) (e .same h);
-        is = λ h. scale-parts n (e .v) (e .p) (e .n) (e .is h);
-      };
-    }
-
 abbrev pub r-shr : (k : Fuel) (a : ℤ) (m : ℕ) → R k a → R (s k) (shrZ a m)
 r-shr k a m x = let e = x .r in
     record {
@@ -282,9 +257,6 @@ r-shr k a m x = let e = x .r in
 abbrev pub ten : Fuel
 ten = s (s (s (s (s (s (s (s (s (s o)))))))))
 
-abbrev pub twenty : Fuel
-twenty = s (s (s (s (s (s (s (s (s (s (s (s (s (s (s (s (s (s (s (s o)))))))))))))))))))
-
 -- what the lemmas below take: a reading of one number, and of two
 pub record Rd (z : ℤ) : Type 0 where
   pub r : E z
@@ -299,20 +271,12 @@ r-one z x = record { r = x .r }
 abbrev pub r-two : (a b : ℤ) → R ten a → R ten b → Two a b
 r-two a b x y = record { e = x .r; f = y .r }
 
-abbrev pub r-one-deep : (z : ℤ) → R twenty z → Rd z
-r-one-deep z x = record { r = x .r }
-
-abbrev pub r-two-deep : (a b : ℤ) → R twenty a → R twenty b → Two a b
-r-two-deep a b x y = record { e = x .r; f = y .r }
-
--- `search zed depth 14`; for a number of more than ten levels `search zdeep depth 24 fits 90000`, in which a product is an atom
+-- `search zed depth 14`: a number of at most ten levels
 pub ruleset zed = (r-one, r-two, r-minus, r-plus, r-neg, r-abs, r-diff, r-quot, r-rem, r-shr, r-back, lo, ls, one, r-times, r-atom)
 
-pub ruleset zlin = (r-one, r-two, r-minus, r-plus, r-neg, r-abs, r-diff, r-quot, r-rem, r-shr, r-back, lo, ls, one, r-scaled, r-scale, r-scale′, r-prod, r-atom)
+pub ruleset zlin = (r-one, r-two, r-minus, r-plus, r-neg, r-abs, r-diff, r-quot, r-rem, r-shr, r-back, lo, ls, one, r-scale, r-scale′, r-prod, r-atom)
 
-pub ruleset zdeep = (r-one-deep, r-two-deep, r-minus, r-plus, r-neg, r-abs, r-diff, r-quot, r-rem, r-shr, r-back, lo, ls, one, r-scaled, r-scale, r-scale′, r-prod, r-atom)
-
-pub ruleset zlow = (r-one, r-two, r-minus, r-plus, r-neg, r-abs, r-diff, r-quot, r-rem, r-shr, r-back, lo, ls, one, r-scaled, r-scale, r-scale′, r-prod, r-low, r-atom)
+pub ruleset zlow = (r-one, r-two, r-minus, r-plus, r-neg, r-abs, r-diff, r-quot, r-rem, r-shr, r-back, lo, ls, one, r-scale, r-scale′, r-prod, r-low, r-atom)
 
 -- ════ goals
 pub zle : {a b : ℤ} (t : Two a b) → Holds (t .e .asks) × Holds (t .f .asks) × (t .e .p + t .f .n ≤ t .f .p + t .e .n) → a ≤ℤ b
@@ -368,16 +332,6 @@ t≤ {a} {b} h t k = le-out (t .e .v) (t .f .v) (omega (arith, eq-in a (t .e .v)
 pub t> : {a b : ℤ} → leZ a b ≡ false → (t : Two a b) → Holds (t .e .asks) × Holds (t .f .asks) → t .f .v <ℤ t .e .v
 t> {a} {b} h t k = lt-out (t .f .v) (t .e .v) (omega (arith, eq-in a (t .e .v) (t .e .same (k .0)), eq-in b (t .f .v) (t .f .same (k .1)), le-no a b h))
 
--- ════ a number read back from its bits, for omega's list, beside a test's fact: `bk (c .fits .a)`; of an expression, `bx fits (search zed depth 14) (omega (arith, zin))`
-pub bk : {w : Width} {z : ℤ} → SFits w z → P (toZ w (ofZ w z)) + N z ≡ P z + N (toZ w (ofZ w z))
-bk {w} {z} h = eq-in (toZ w (ofZ w z)) z (toZ-ofZ w z h)
-
-pub bk-in : (w : Width) (z : ℤ) → SFits w z → P (toZ w (ofZ w z)) + N z ≡ P z + N (toZ w (ofZ w z))
-bk-in w z h = bk h
-
--- orders and equations of numbers that are only passed on and tested, with no arithmetic: `omega (arith, zord)`, also for a goal of several such parts. Here a fact `SFits w z` is read as: z is what is read back from its bits
-pub ruleset zord = (le-in, lt-in, eq-in, bk-in, lt-yes, lt-no, le-yes, le-no, le-out, lt-out, eq-out)
-
 -- two numbers with the same bits
 pub bits-eq : {w : Width} {a b : ℤ} → SFits w a → SFits w b → ofZ w a ≡ ofZ w b → a ≡ b
 bits-eq {w} {a} {b} h k e = sym (toZ-ofZ w a h) ∙ ap (toZ w) e ∙ toZ-ofZ w b k
@@ -420,23 +374,9 @@ pub abs-pos : {z : ℤ} → pos 0 ≤ℤ z → z ≡ pos (natAbs z)
 abs-pos {z = pos n} h = refl
 abs-pos {z = negsuc n} h = absurd (h .le)
 
-pub abs-neg : {z : ℤ} → z <ℤ pos 0 → negℤ z ≡ pos (natAbs z)
-abs-neg {z = pos n} h = let z : ⊥ = omega (arith, zin) in absurd z
-abs-neg {z = negsuc n} h = refl
-
--- two numbers with other bits, for omega's list
-pub bits-ne : (w : Width) (a b : ℤ) → (ofZ w a ≡ ofZ w b → ⊥) → P a + N b ≢ P b + N a
-bits-ne w a b f e = f (ap (ofZ w) (eq-out a b e))
-
--- ════ facts that are an equation with a sum, a difference, a negation on the right, for omega's list
+-- ════ a fact that is an equation with a sum on the right, for omega's list
 pub eq-plus : (r a b : ℤ) → r ≡ a +ℤ b → P r + (N a + N b) ≡ (P a + P b) + N r
 eq-plus r a b e = omega (arith, eq-in r (a +ℤ b) e, add-is a b)
-
-pub eq-minus : (r a b : ℤ) → r ≡ a -ℤ b → P r + (N a + P b) ≡ (P a + N b) + N r
-eq-minus r a b e = omega (arith, eq-in r (a -ℤ b) e, add-is a (negℤ b), neg-is b)
-
-pub eq-neg : (r a : ℤ) → r ≡ negℤ a → P r + P a ≡ N a + N r
-eq-neg r a e = omega (arith, eq-in r (negℤ a) e, neg-is a)
 
 -- ════ a number between two bounds, as one fact. The bounds are atoms or literals
 pub zwithin : {lo hi z : ℤ} (e : Rd z) → Holds (e .r .asks) × (P lo + e .r .n ≤ e .r .p + N lo) × (e .r .p + N hi ≤ P hi + e .r .n) → Within lo hi z

@@ -1,7 +1,7 @@
 -- The laws of the ring ℤ and of its order. Assumes nothing.
-use mathlib.Core.Path.{_≡_, refl, _∙_, ap}
+use mathlib.Core.Path.{_≡_, refl}
 use mathlib.Core.Logic.{_⊎_, inl, inr}
-use Prim.Native.Nat.{_<_, ℕ, suc, _+_, _*_, _≤_}
+use Prim.Native.Nat.{_<_, ℕ, _+_, _*_, _≤_}
 use native.Mathlib.Nat.{le-of-mul-le-mul-left, mul-le-mul-right}
 use native.Mathlib.Decide.{decLe}
 use native.Mathlib.Omega.{arith}
@@ -9,25 +9,16 @@ use lib.IntN.{ℤ, pos, negsuc, negℤ, _+ℤ_, _-ℤ_, _*ℤ_}
 use lib.Signed.{_≤ℤ_, _<ℤ_, leZ, leZ-yes}
 use lib.Dec.{T}
 use Rattle.whole.specs.Size.{P, N}
-use Rattle.whole.proofs.Parts.{le-in, lt-in, le-out, lt-out, mul-is, zin, zout}
+use Rattle.whole.proofs.Parts.{le-in, lt-in, le-out, lt-out, zin, zout}
 use Rattle.whole.proofs.Linear.{on, difs, ints, dif-le}
-use Rattle.whole.proofs.Readings.{zed, zlin, zle, zeq, scale}
+use Rattle.whole.proofs.Readings.{zed, zle, zeq}
 
 -- ---- the ring
-pub *-assoc : (a b c : ℤ) → (a *ℤ b) *ℤ c ≡ a *ℤ (b *ℤ c)
-*-assoc a b c = zeq (search zed depth 14) (omega arith)
-
 pub *-comm : (a b : ℤ) → a *ℤ b ≡ b *ℤ a
 *-comm a b = zeq (search zed depth 14) (omega arith)
 
-pub *-dist-r : (a b c : ℤ) → (a +ℤ b) *ℤ c ≡ a *ℤ c +ℤ b *ℤ c
-*-dist-r a b c = zeq (search zed depth 14) (omega arith)
-
 pub *-dist-l : (a b c : ℤ) → a *ℤ (b +ℤ c) ≡ a *ℤ b +ℤ a *ℤ c
 *-dist-l a b c = zeq (search zed depth 14) (omega arith)
-
-pub *-dist-minus : (a b c : ℤ) → a *ℤ (b -ℤ c) ≡ a *ℤ b -ℤ a *ℤ c
-*-dist-minus a b c = zeq (search zed depth 14) (omega arith)
 
 pub *-one : (a : ℤ) → pos 1 *ℤ a ≡ a
 *-one a = zeq (search zed depth 14) (omega arith)
@@ -38,48 +29,12 @@ pub *-zero : (a : ℤ) → pos 0 *ℤ a ≡ pos 0
 pub neg-times : (a b : ℤ) → negℤ a *ℤ b ≡ negℤ (a *ℤ b)
 neg-times a b = zeq (search zed depth 14) (omega arith)
 
-pub minus-self : (a : ℤ) → a -ℤ a ≡ pos 0
-minus-self a = zeq (search zed depth 14) (omega arith)
-
 pub minus-plus : (a b : ℤ) → (a -ℤ b) +ℤ b ≡ a
 minus-plus a b = zeq (search zed depth 14) (omega arith)
-
-pub minus-minus : (a b c : ℤ) → a -ℤ (b -ℤ c) ≡ (a -ℤ b) +ℤ c
-minus-minus a b c = zeq (search zed depth 14) (omega arith)
-
-pub swap-minus : (a b : ℤ) → negℤ (a -ℤ b) ≡ b -ℤ a
-swap-minus a b = zeq (search zed depth 14) (omega arith)
 
 -- of a higher degree: each side is multiplied out in ℤ first, and each monomial, its factors sorted, is an atom
 pub *-left : (a b c : ℤ) → a *ℤ (b *ℤ c) ≡ b *ℤ (a *ℤ c)
 *-left a b c = zeq (search zed depth 14) (omega arith)
-
-pub times-neg : (a b : ℤ) → a *ℤ negℤ b ≡ negℤ (a *ℤ b)
-times-neg a b = zeq (search zed depth 14) (omega arith)
-
-pub lit-l : (n : ℕ) (z : ℤ) → pos n *ℤ z ≡ scale n z
-unfolding scale
-lit-l n z = refl
-
-pub lit-r : (n : ℕ) (z : ℤ) → z *ℤ pos n ≡ scale n z
-unfolding scale
-lit-r n z = *-comm z (pos n)
-
-pub nlit-l : (n : ℕ) (z : ℤ) → negsuc n *ℤ z ≡ negℤ (scale (suc n) z)
-nlit-l n z = zeq (search zlin depth 14) (omega (arith, mul-is (negsuc n) z))
-
-pub nlit-r : (n : ℕ) (z : ℤ) → z *ℤ negsuc n ≡ negℤ (scale (suc n) z)
-nlit-r n z = *-comm z (negsuc n) ∙ nlit-l n z
-
-pub scale-l : (n : ℕ) (a b : ℤ) → scale n a *ℤ b ≡ scale n (a *ℤ b)
-unfolding scale
-scale-l n a b = *-assoc (pos n) a b
-
-pub scale-r : (n : ℕ) (a b : ℤ) → a *ℤ scale n b ≡ scale n (a *ℤ b)
-unfolding scale
-scale-r n a b = *-left a (pos n) b
-
-pub ruleset zring = (lit-l, lit-r, nlit-l, nlit-r, scale-l, scale-r, *-dist-r, *-dist-l, neg-times, times-neg, *-assoc, *-comm, *-left)
 
 -- ---- the order
 pub le-trans : {a b c : ℤ} → a ≤ℤ b → b ≤ℤ c → a ≤ℤ c
@@ -87,18 +42,6 @@ le-trans {a} {b} {c} h k = omega (arith, zin, zout)
 
 pub le-antisymm : {a b : ℤ} → a ≤ℤ b → b ≤ℤ a → a ≡ b
 le-antisymm {a} {b} h k = omega (arith, zin, zout)
-
-pub lt-trans : {a b c : ℤ} → a <ℤ b → b <ℤ c → a <ℤ c
-lt-trans {a} {b} {c} h k = omega (arith, zin, zout)
-
-pub lt-le : {a b : ℤ} → a <ℤ b → a ≤ℤ b
-lt-le {a} {b} h = omega (arith, zin, zout)
-
-pub lt-irrefl : {a : ℤ} → a <ℤ a → ⊥
-lt-irrefl {a} h = omega (arith, zin, zout)
-
-pub ne-of-lt : {a b : ℤ} → a <ℤ b → a ≡ b → ⊥
-ne-of-lt {a} {b} h e = omega (arith, zin)
 
 -- which of the two
 pub le-or-lt : (a b : ℤ) → (a ≤ℤ b) ⊎ (b <ℤ a)
@@ -114,9 +57,6 @@ add-mono {a} {b} {c} {d} h k = zle (search zed depth 14) (omega (arith, zin))
 pub neg-mono : {a b : ℤ} → a ≤ℤ b → negℤ b ≤ℤ negℤ a
 neg-mono {a} {b} h = zle (search zed depth 14) (omega (arith, zin))
 
-pub sub-nonneg : {a b : ℤ} → a ≤ℤ b → pos 0 ≤ℤ (b -ℤ a)
-sub-nonneg {a} {b} h = zle (search zed depth 14) (omega (arith, zin))
-
 -- times a natural number
 pub mul-mono : {a b : ℤ} (k : ℕ) → a ≤ℤ b → (pos k *ℤ a) ≤ℤ (pos k *ℤ b)
 mul-mono {a} {b} k h = zle (search zed depth 14) (omega (arith, mul-le-mul-right k (le-in a b h)))
@@ -128,9 +68,6 @@ nonneg-N {z = negsuc n} h = absurd (h .le)
 pub negative-P : {z : ℤ} → z <ℤ pos 0 → P z ≡ 0
 negative-P {z = pos n} h = let l = lt-in (pos n) (pos 0) h in omega arith
 negative-P {z = negsuc n} h = refl
-
-pub mul-mono-z : {a b : ℤ} (k : ℤ) → pos 0 ≤ℤ k → a ≤ℤ b → (k *ℤ a) ≤ℤ (k *ℤ b)
-mul-mono-z {a} {b} k p h = zle (search zed depth 14) (omega (arith, mul-le-mul-right (P k) (le-in a b h), ap (λ (x : ℕ). x * P a) (nonneg-N p), ap (λ (x : ℕ). x * P b) (nonneg-N p), ap (λ (x : ℕ). x * N a) (nonneg-N p), ap (λ (x : ℕ). x * N b) (nonneg-N p)))
 
 -- a multiple by a positive number has the sign of the number
 pub le-zero-of-times : (n : ℕ) (a : ℤ) → 0 < n → (pos n *ℤ a) ≤ℤ pos 0 → a ≤ℤ pos 0

@@ -133,15 +133,12 @@ her-suc m v h = lin (floor v m) (her m (v +ℤ pos 1)) (her m v) (floor (v +ℤ 
     lin : (f g g′ f′ : ℤ) → f +ℤ g ≡ g′ +ℤ f′ → f′ ≡ f +ℤ pos 1 → g ≡ g′ +ℤ pos 1
     lin = on _ λ a b. on _ λ c d. on _ λ e f. on _ λ g k. simp difs (omega ints)
 
-    shift : (v : ℤ) (u : ℕ) → v +ℤ pos (suc u) ≡ v +ℤ pos 1 +ℤ pos u
-    shift v u = lin′ u v
-      where
-        lin′ : (u : ℕ) (v : ℤ) → v +ℤ pos (suc u) ≡ v +ℤ pos 1 +ℤ pos u
-        lin′ u = on _ λ a b. simp difs (omega ints)
+    shift : (u : ℕ) (v : ℤ) → v +ℤ pos (suc u) ≡ v +ℤ pos 1 +ℤ pos u
+    shift u = on _ λ a b. simp difs (omega ints)
 
     e : floor v m +ℤ her m (v +ℤ pos 1) ≡ her m v +ℤ floor (v +ℤ pos m) m
     e = ap₂ _+ℤ_ (ap (λ (z : ℤ). floor z m) (sym (+ℤ-idr v)))
-        (sum-cong m (λ u. floor (v +ℤ pos 1 +ℤ pos u) m) (λ u. floor (v +ℤ pos (suc u)) m) (λ u l. ap (λ (z : ℤ). floor z m) (sym (shift v u))))
+        (sum-cong m (λ u. floor (v +ℤ pos 1 +ℤ pos u) m) (λ u. floor (v +ℤ pos (suc u)) m) (λ u l. ap (λ (z : ℤ). floor z m) (sym (shift u v))))
         ∙ sym (sum-first m (λ u. floor (v +ℤ pos u) m))
 
 her-add : (m : ℕ) (v : ℤ) (k : ℕ) → 0 < m → her m (v +ℤ pos k) ≡ her m v +ℤ pos k

@@ -10,15 +10,14 @@ use mir.Val.{SFits}
 use mir.Facts.{toZ-ofZ}
 use Rattle.whole.specs.Lists.{at}
 use Rattle.index.specs.Keys.{keyAt}
-use Rattle.index.proofs.Equality.{key-part, keyAt-length}
+use Rattle.index.proofs.Equality.{key-part, keyAt-length, stretch-fits}
 use Rattle.soundness.specs.Inner.{lightPair}
-use Rattle.soundness.proofs.Seeking.{stretch-in}
 use Rattle.soundness.proofs.Weighing.{key-of, row-key, row-pair}
 use Rattle.soundness.proofs.rows.good_row.Statement.{statement}
 use Rattle.soundness.proofs.rows.good_row.Tie as tie
 
 stretch : (s : tie.Start) → s .args .d * s .args .i + s .args .d ≤ length (s .args .keys .now)
-stretch s = stretch-in (s .args .d) (s .args .i) (s .args .points) _ (s .pre .1) (s .pre .0 .stretches)
+stretch s = stretch-fits (s .args .d) (s .args .i) (s .args .points) _ (s .pre .1) (s .pre .0 .stretches)
 
 mul-a : tie.Need-mul-a
 mul-a c = record { fits = omega (arith, stretch c) }
