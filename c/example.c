@@ -49,7 +49,7 @@ static void load_what_is_there(struct table *t) {
     };
     size_t offset = 0;
     uint8_t number = vimrothi_load(log, sizeof log, VIMROTHI_HEAD(t->head), MEMORY(t), &offset);
-    expect("load", number, VIMROTHI_CUT_SHORT);
+    expect("load", number, VIMROTHI_BODY_CUT);
     printf("log: refused with %d at byte %zu; readings before it: %zu\n", number, offset, t->head.readings);
 }
 

@@ -67,7 +67,7 @@ extern "C" {
 /* The refusal numbers, and 0. */
 #define VIMROTHI_DONE 0
 #define VIMROTHI_SETTINGS_OUT_OF_RANGE 1 /* d, S or C out of range */
-#define VIMROTHI_WRONG_LENGTH 2          /* another length than the settings give, or not whole items */
+#define VIMROTHI_OTHER_LENGTH 2          /* another length than the settings give, or not whole items */
 #define VIMROTHI_NOT_SOUND 3             /* the table is not sound */
 #define VIMROTHI_COORDINATE_BEYOND 4     /* a coordinate is beyond the limit */
 #define VIMROTHI_SUM_NOT_ZERO 5          /* the coordinates don't sum to 0 */
@@ -75,13 +75,13 @@ extern "C" {
 #define VIMROTHI_TOO_MANY_READINGS 7     /* more than 4,096 readings would be held */
 #define VIMROTHI_TOO_MANY_POINTS 8       /* more than C points would be stored */
 #define VIMROTHI_SETTINGS_DIFFER 9       /* merge: d or S differ */
-#define VIMROTHI_NO_POINT 10             /* no stored point has weight above 0 for the query */
-#define VIMROTHI_NO_MASS 11              /* one has, but the blurred mass sum is 0: never met */
+#define VIMROTHI_NO_POINT_MET 10         /* no stored point has weight above 0 for the query */
+#define VIMROTHI_NO_MASS_MET 11          /* one has, but the blurred mass sum is 0: never met */
 #define VIMROTHI_KIND_NOT_LISTED 12      /* log: kind byte not listed */
-#define VIMROTHI_SETTINGS_NOT_FIRST 13   /* log: settings not first, or met again */
+#define VIMROTHI_SETTINGS_MISPLACED 13   /* log: settings not first, or met again */
 #define VIMROTHI_OTHER_DIMENSION 14      /* log: item of another dimension than the settings */
-#define VIMROTHI_CUT_SHORT 15            /* log: body cut short */
-#define VIMROTHI_LOG_TOO_LARGE 16        /* report: log over 16,384 bytes, or C over 512 */
+#define VIMROTHI_BODY_CUT 15             /* log: body cut short */
+#define VIMROTHI_PROGRAM_LIMIT 16        /* report: log over 16,384 bytes, or C over 512 */
 
 /* A table's head. */
 struct vimrothi_head {

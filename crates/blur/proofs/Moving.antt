@@ -14,7 +14,7 @@ use mir.Facts.{toZ-ofZ}
 use borrow.Author.Tests.{eq-eqb, ne-eqb}
 use Rattle.whole.specs.Size.{Abs≤}
 use Rattle.whole.specs.Lists.{at, tab}
-use Rattle.whole.proofs.Readings.{zlin, W32}
+use Rattle.whole.proofs.Signed.{zlin, W32}
 use Rattle.whole.proofs.Size.{zabs, back32}
 use Rattle.whole.proofs.Lists.{length-tab, tab-is, place-more}
 use Rattle.lattice.specs.Limits.{most-d, farthest-point}

@@ -14,7 +14,7 @@ use Rattle.whole.specs.Sum.{sum, over, all}
 use Rattle.whole.specs.Lists.{tab, collect}
 use Rattle.whole.specs.Word.{word}
 use Rattle.whole.proofs.Linear.{on, difs, ints}
-use Rattle.whole.proofs.Readings.{zlin}
+use Rattle.whole.proofs.Signed.{zlin}
 use Rattle.whole.proofs.Ring.{le-trans}
 use Rattle.whole.proofs.Size.{zabs}
 use Rattle.lattice.specs.Refusals.{first}

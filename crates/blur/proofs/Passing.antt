@@ -15,7 +15,7 @@ use mir.Val.{SFits}
 use mir.Facts.{toZ-ofZ}
 use Rattle.whole.specs.Size.{Abs≤}
 use Rattle.whole.specs.Lists.{at}
-use Rattle.whole.proofs.Readings.{W64}
+use Rattle.whole.proofs.Signed.{W64}
 use Rattle.whole.proofs.Size.{back64}
 use Rattle.index.proofs.Equality.{keyAt-length, key-part}
 use Rattle.table.specs.Table.{Settings, Table, key, held}

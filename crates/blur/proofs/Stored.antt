@@ -12,7 +12,7 @@ use Rattle.whole.specs.Size.{Abs≤}
 use Rattle.whole.specs.Lists.{at}
 use Rattle.index.proofs.Finding.{found-low}
 use Rattle.table.specs.Table.{Settings, Table, key, mass, value, entry, found, pairAt, held}
-use Rattle.table.specs.Inner.{Fine}
+use Rattle.table.specs.Sound.{Fine}
 use Rattle.blur.specs.Blur.{isStored, masses, values}
 use Rattle.blur.specs.Sheet.{withSums}
 use Rattle.blur.specs.Inner.{Readable}

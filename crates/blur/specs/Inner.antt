@@ -10,7 +10,7 @@ use Rattle.whole.specs.Lists.{at}
 use Rattle.lattice.specs.Limits.{most-d, most-value, most-readings, most-W, farthest-point}
 use Rattle.index.specs.Indexed.{Indexed}
 use Rattle.table.specs.Table.{Settings, Table, key, entry}
-use Rattle.table.specs.Inner.{Ranged, Shape, Fine}
+use Rattle.table.specs.Sound.{Ranged, Shape, Fine}
 use Rattle.blur.specs.Blur.{plusStep, minusStep, pass, isStored, masses, values}
 use Rattle.blur.specs.Sheet.{sheet, blurredSheet, clearSheet}
 

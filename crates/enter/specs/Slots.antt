@@ -9,7 +9,8 @@ use Rattle.lattice.specs.Limits.{most-value, most-W}
 use Rattle.simplex.specs.Slots.{slot}
 use Rattle.table.specs.Table.{Settings, Table, Row}
 use Rattle.table.specs.Pour.{news}
-use Rattle.table.specs.Inner.{Ranged, weighedRow, InTurn}
+use Rattle.table.specs.Sound.{Ranged}
+use Rattle.table.specs.Inner.{weighedRow, InTurn}
 use Rattle.pour.specs.Inner.{Seekable}
 
 -- the rows of slot k, and of the slots before n

@@ -5,8 +5,7 @@
 // these declarations say: c/vimrothi.h has what it owes.
 ghost use Rattle.table.specs.Table.{Settings};
 ghost use Rattle.table.specs.Calls.{lent, freshRefusal, afterFresh, enter, mergeRefusal, afterMerge};
-ghost use Rattle.table.specs.Heads.{settings, table, Answers};
-ghost use Rattle.enter.specs.Entering.{Enters};
+ghost use Rattle.table.specs.Heads.{settings, table, Answers, Enters};
 ghost use Rattle.listing.specs.Listing.{Lists};
 ghost use Rattle.filter.specs.Filter.{Lent, Filters};
 ghost use Rattle.log.specs.Loading.{Loads, load};

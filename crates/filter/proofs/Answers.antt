@@ -11,7 +11,7 @@ use Rattle.whole.specs.Lists.{at}
 use Rattle.whole.proofs.Ring.{neg-times}
 use Rattle.lattice.specs.Limits.{most-W, most-readings, most-value}
 use Rattle.table.specs.Table.{Settings, Table, key, mass, value}
-use Rattle.table.specs.Inner.{Fine}
+use Rattle.table.specs.Sound.{Fine}
 use Rattle.table.proofs.Soundness.{of-fine}
 use Rattle.table.proofs.Refusals.{T-of}
 use Rattle.blur.specs.Blur.{masses, values, blurredMass, blurredValue}

@@ -12,7 +12,7 @@ use Rattle.whole.proofs.Ring.{*-comm, *-dist-l, add-mono, mul-mono}
 use Rattle.lattice.specs.Weight.{weight}
 use Rattle.table.specs.Table.{Settings, Table, key, mass, value, whole, pairAt, held}
 use Rattle.table.specs.Reading.{Reading, parsed, refusal, entered}
-use Rattle.table.specs.Inner.{Fine}
+use Rattle.table.specs.Sound.{Fine}
 use Rattle.table.specs.Calls.{fresh, Outcome, enterAll, enterRefusal, enter, mergeRefusal, merged, afterMerge}
 use Rattle.table.specs.Theorems.{Usable, plus}
 use Rattle.table.proofs.Good.{key-whole}
@@ -57,7 +57,7 @@ merge-between lo hi c t b s h k = go (mergeRefusal c t b s) refl
     go (suc x) e = rw (merge-refused c t b s x e) h
 
 -- one reading
-reading-between : (lo hi : ℤ) (c : Settings) (t : Table) (r : Reading) → length (r .place) ≡ suc (c .d) → Usable c t → refusal c t r ≡ 0
+reading-between : (lo hi : ℤ) (c : Settings) (t : Table) (r : Reading) → length (r .position) ≡ suc (c .d) → Usable c t → refusal c t r ≡ 0
     → ValuesBetween lo hi c t → Within lo hi (r .value) → ValuesBetween lo hi c (entered c t r)
 reading-between lo hi c t r size U e h b = all-between lo hi c u (every-pair c u (M .readable) (λ a b. Bounded lo hi (a, b)) (bounded-zero lo hi) each)
   where
@@ -74,7 +74,7 @@ reading-between lo hi c t r size U e h b = all-between lo hi c u (every-pair c u
     each : (i : ℕ) → i < u .m → Bounded lo hi (mass u i, value u i)
     each i l =
         let k = key c u i in
-        let w = weight (c .d) (c .S) (at (r .place)) (at (whole k)) in
+        let w = weight (c .d) (c .S) (at (r .position)) (at (whole k)) in
         let a = enter-adds c t r size U e (whole k) (M .point i l) in
         subst (Bounded lo hi) (sym (rw (key-whole (c .d) k (M .size i l)) at a) ∙ ap (pairAt (u .sums)) (M .readable .indexed .finds i l))
         (bounded-plus lo hi (held c t k) (pos w, pos w *ℤ r .value) (h .low k, h .high k) (bounded-share lo hi w (r .value) b))
@@ -83,9 +83,9 @@ reading-between lo hi c t r size U e h b = all-between lo hi c u (every-pair c u
 pub enter-between : EnterBetween
 enter-between lo hi c t l h w = go (enterRefusal c t l) refl
   where
-    taken : (rs : List Reading) (t : Table) → Usable c t → All (λ r. length (r .place) ≡ suc (c .d)) rs → ValuesBetween lo hi c t
+    taken : (rs : List Reading) (t : Table) → Usable c t → All (λ r. length (r .position) ≡ suc (c .d)) rs → ValuesBetween lo hi c t
         → All (λ r. Within lo hi (r .value)) (take ((enterAll c t rs) .taken) rs) → ValuesBetween lo hi c ((enterAll c t rs) .table)
-    taken = enter-ind c (λ t rs o. Usable c t → All (λ r. length (r .place) ≡ suc (c .d)) rs → ValuesBetween lo hi c t
+    taken = enter-ind c (λ t rs o. Usable c t → All (λ r. length (r .position) ≡ suc (c .d)) rs → ValuesBetween lo hi c t
         → All (λ r. Within lo hi (r .value)) (take (o .taken) rs) → ValuesBetween lo hi c (o .table))
         (λ t U z h w. h) (λ t r rs x e U z h w. h)
         (λ t r rs e ih U z h w. ih (enter-keeps c t r (z .0) U e) (z .1) (reading-between lo hi c t r (z .0) U e h (w .0)) (w .1))

@@ -14,8 +14,7 @@ use Rattle.lattice.specs.Limits.{most-d, most-C}
 use Rattle.lattice.specs.Refusals.{first}
 use Rattle.table.specs.Table.{Settings, Table}
 use Rattle.table.specs.Calls.{ranged, fits, callRefusal}
-use Rattle.table.specs.Sound.{sound}
-use Rattle.table.specs.Inner.{Ranged}
+use Rattle.table.specs.Sound.{sound, Ranged}
 use Rattle.table.proofs.Soundness.{to-ranged}
 use Rattle.table.proofs.Keeping.{Called, called}
 use Rattle.table.proofs.Refusals.{first-at, T-of}

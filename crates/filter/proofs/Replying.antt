@@ -14,7 +14,7 @@ use Rattle.simplex.proofs.Slots.{slots-are-the-points, weights-length, coords-l
 use Rattle.simplex.proofs.Placing.{placed}
 use Rattle.index.specs.Keys.{eqZ}
 use Rattle.table.specs.Table.{Settings, Table}
-use Rattle.table.specs.Inner.{Ranged}
+use Rattle.table.specs.Sound.{Ranged}
 use Rattle.blur.specs.Blur.{masses, values}
 use Rattle.blur.proofs.Stored.{not-stored}
 use Rattle.filter.specs.declared.reply.Reply.{Reply}

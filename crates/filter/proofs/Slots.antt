@@ -19,7 +19,7 @@ use Rattle.whole.specs.Sum.{over}
 use Rattle.whole.specs.Lists.{at, tab, collect}
 use Rattle.whole.proofs.Parts.{zin, le-in}
 use Rattle.whole.proofs.Linear.{on, difs, ints}
-use Rattle.whole.proofs.Readings.{zlow, zeq, W64}
+use Rattle.whole.proofs.Signed.{zlow, zeq, W64}
 use Rattle.whole.proofs.Size.{fits64}
 use Rattle.whole.proofs.Sum.{over-append}
 use Rattle.lattice.specs.Limits.{most-W}

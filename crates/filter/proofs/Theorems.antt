@@ -13,7 +13,7 @@ use Rattle.whole.specs.Rounding.{rounded, most-fraction}
 use Rattle.whole.specs.Sum.{sum}
 use Rattle.whole.proofs.Linear.{on, difs, ints}
 use Rattle.whole.proofs.Parts.{natAbs-is, le-in, le-out, eq-in}
-use Rattle.whole.proofs.Readings.{abs-pos}
+use Rattle.whole.proofs.Signed.{abs-pos}
 use Rattle.whole.proofs.Ring.{*-one, *-comm, le-trans, mul-mono, le-or-lt}
 use Rattle.whole.proofs.Rounding.{rounded-between}
 use Rattle.whole.proofs.Sum.{sum-zero, sum-tight}
@@ -26,7 +26,7 @@ use Rattle.lattice.proofs.Judging.{judged-right}
 use Rattle.index.specs.Keys.{eqZ}
 use Rattle.index.proofs.Equality.{eqZ-eq}
 use Rattle.table.specs.Table.{Settings, Table, key, held}
-use Rattle.table.specs.Inner.{Fine}
+use Rattle.table.specs.Sound.{Fine}
 use Rattle.table.specs.Theorems.{Usable}
 use Rattle.table.proofs.Soundness.{to-fine}
 use Rattle.blur.specs.Blur.{massAfter, valueAfter, blurredMass, blurredValue}

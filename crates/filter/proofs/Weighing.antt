@@ -29,15 +29,14 @@ use Rattle.index.proofs.Equality.{eq-eqb, eqZ-eq, same-eq, eq-same}
 use Rattle.index.proofs.Finding.{finds-exactly}
 use Rattle.index.specs.Search.{walk, search as sought}
 use Rattle.index.specs.Indexed.{count, sparse, finding}
-use Rattle.table.specs.Table.{Settings, Table, key, entry, found, whole, rows}
-use Rattle.table.specs.Inner.{Ranged, massOf}
+use Rattle.table.specs.Table.{Settings, Table, key, entry, found, whole, rows, massOf}
 use Rattle.table.specs.Reading.{Reading, share, shares, parsed, refusal}
 use Rattle.table.proofs.Lists.{over-map}
 use Rattle.table.proofs.Good.{key-whole}
 use Rattle.table.proofs.Rows.{gives}
 use Rattle.table.proofs.Soundness.{W-most}
 use Rattle.table.proofs.Shares.{share-given}
-use Rattle.table.specs.Sound.{goodKey, goodPair, indexed, sound}
+use Rattle.table.specs.Sound.{goodKey, goodPair, indexed, sound, Ranged}
 use Rattle.table.specs.Pour.{setPair, append, raise, pour, news}
 use Rattle.table.specs.Calls.{ranged, fits, fresh, enterAll, callRefusal, enter}
 use Rattle.blur.specs.Blur.{isStored, step, plusStep, minusStep, pass, passes, massAfter, valueAfter}
@@ -78,7 +77,7 @@ module _ (c : Settings) (t : Table) (M : Mapped c t) (q : List ℤ) where
   unfolding ps shares
   weight-in i l =
       let k = key c t i in
-      let r : Reading = record { place = q; value = pos 0 } in
+      let r : Reading = record { position = q; value = pos 0 } in
       let e = share-given (c .d) (c .S) (M .readable .ranged .S-least) r (whole k) (M .point i l) in
       sym (ap (λ (z : ℤ × ℤ). z .0) e)
       ∙ ap (λ (y : List ℤ). over (shares (c .d) (c .S) r) (gives massOf y)) (key-whole (c .d) k (M .size i l))

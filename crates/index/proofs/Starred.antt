@@ -2,7 +2,7 @@
 use mathlib.Core.Path.{refl}
 use Rattle.whole.specs.Word.{word}
 use Rattle.index.specs.Keys.{hash, home}
-use Rattle.index.specs.Theorems.{HomeCases}
+use Rattle.index.specs.Starred.{HomeCases}
 
 pub home-cases : HomeCases
 unfolding home hash word

@@ -1,10 +1,9 @@
 -- What is true of an index that finds each of its points. Statements: the proofs stand in proofs/.
 use mathlib.Core.Path.{_≡_}
 use mathlib.Core.Logic.{_↔_, _≢_}
-use mathlib.Core.List.{List, [], _∷_}
+use mathlib.Core.List.{List}
 use Prim.Native.Nat.{ℕ, suc, _*_, _<_}
-use lib.IntN.{ℤ, pos, negsuc}
-use Rattle.index.specs.Keys.{home}
+use lib.IntN.{ℤ}
 use Rattle.index.specs.Search.{search}
 use Rattle.index.specs.Indexed.{Indexed}
 
@@ -28,9 +27,3 @@ NewPointFound = (C m : ℕ) (key : ℕ → List ℤ) (entry : ℕ → ℕ) → 0
     → ((i : ℕ) → i < m → key′ i ≡ key i) → key′ m ≡ k
     → entry′ (search C key entry k) ≡ suc m → ((p : ℕ) → p ≢ search C key entry k → entry′ p ≡ entry p)
     → Indexed C (suc m) key′ entry′
-
--- "*d=1, C=8: home of key 1 is 3, of 2 is 6, of -1 is 13."
-pub record HomeCases : Type 0 where
-  pub of-one : home 8 (pos 1 ∷ []) ≡ 3
-  pub of-two : home 8 (pos 2 ∷ []) ≡ 6
-  pub of-minus-one : home 8 (negsuc 0 ∷ []) ≡ 13

@@ -1,4 +1,4 @@
-pub mod Agreeing
+pub mod Worked
 pub mod Leaving
 pub mod Taking
 pub mod Starting

@@ -11,7 +11,8 @@ use Rattle.table.specs.Table.{Settings, Table, rows}
 use Rattle.table.specs.Pour.{pour, news}
 use Rattle.table.specs.Heads.{settings, table, headOf, Holds, Answers}
 use Rattle.table.specs.Calls.{mergeRefusal, afterMerge}
-use Rattle.table.specs.Inner.{InTurn, Fine}
+use Rattle.table.specs.Sound.{Fine}
+use Rattle.table.specs.Inner.{InTurn}
 use Rattle.table.proofs.Turns.{in-turn, pour-n}
 use Rattle.table.proofs.Keeping.{mergeable, source-acceptable, acceptable-pours}
 use Rattle.table.proofs.Calls.{merge-done, merge-refused}

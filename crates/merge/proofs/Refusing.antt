@@ -9,11 +9,10 @@ use borrow.Author.Tests.{eq-eqb, ne-eqb, le-leb, lt-leb}
 use Rattle.lattice.specs.Limits.{most-readings}
 use Rattle.lattice.specs.Refusals.{first, settings-out-of-range, other-length, not-sound, settings-differ, too-many-readings, too-many-points}
 use Rattle.table.specs.Table.{Settings, Table, rows}
-use Rattle.table.specs.Sound.{sound}
+use Rattle.table.specs.Sound.{sound, Fine}
 use Rattle.table.specs.Pour.{news}
 use Rattle.table.specs.Calls.{ranged, fits, mergeRefusal}
 use Rattle.table.proofs.Refusals.{first-zero}
-use Rattle.table.specs.Inner.{Fine}
 use Rattle.table.proofs.Soundness.{to-ranged, to-shape, to-sound}
 use Rattle.merge.specs.Refusals.{eachRefusal, bothRefusal}
 

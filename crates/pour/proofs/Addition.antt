@@ -9,7 +9,7 @@ use mir.Syntax.{w64}
 use mir.Val.{SFits}
 use mir.Facts.{toZ-ofZ}
 use Rattle.whole.specs.Lists.{at}
-use Rattle.whole.proofs.Readings.{W64}
+use Rattle.whole.proofs.Signed.{W64}
 use Rattle.index.specs.Keys.{keyAt}
 use Rattle.index.specs.Search.{search}
 use Rattle.index.proofs.Finding.{found-low}

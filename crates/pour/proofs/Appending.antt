@@ -10,7 +10,7 @@ use mir.Syntax.{w64}
 use mir.Val.{SFits}
 use mir.Facts.{toZ-ofZ}
 use Rattle.whole.specs.Lists.{splice}
-use Rattle.whole.proofs.Readings.{W64}
+use Rattle.whole.proofs.Signed.{W64}
 use Rattle.index.proofs.Equality.{stretch-fits}
 use Rattle.table.specs.Table.{Settings, Table, Row}
 use Rattle.table.specs.Heads.{Holds}

@@ -10,7 +10,7 @@ use Rattle.index.specs.Search.{entryAt, search, Searchable}
 use Rattle.index.proofs.Finding.{search-lt}
 use Rattle.index.proofs.Steps.{searchable}
 use Rattle.table.specs.Table.{Settings, Table}
-use Rattle.table.specs.Inner.{Fine}
+use Rattle.table.specs.Sound.{Fine}
 use Rattle.pour.specs.Inner.{Seekable, Sought, oneIfNew}
 
 -- the memory of a sound table can be sought in

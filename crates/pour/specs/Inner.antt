@@ -13,7 +13,7 @@ use Rattle.index.specs.Keys.{keyAt}
 use Rattle.index.specs.Search.{entryAt, search}
 use Rattle.index.specs.Indexed.{Sparse}
 use Rattle.table.specs.Table.{Settings, Table, Row}
-use Rattle.table.specs.Inner.{Ranged, Shape}
+use Rattle.table.specs.Sound.{Ranged, Shape}
 
 -- all the mass that 4,096 readings give
 abbrev pub most-mass : ℕ

@@ -35,7 +35,7 @@ values-within : (rs : List Reading) → All (λ r. Within (leastIn rs) (greatest
 values-within rs = all-list (λ r. Within (leastIn rs) (greatestIn rs) (r .value)) rs none each
   where
     none : Reading
-    none = record { place = []; value = pos 0 }
+    none = record { position = []; value = pos 0 }
 
     each : (i : ℕ) → i < length rs → Within (leastIn rs) (greatestIn rs) (getD rs i none .value)
     each i h = subst (Within (leastIn rs) (greatestIn rs)) (List·getD-map (λ (r : Reading). r .value) rs i none) (record {
@@ -48,7 +48,7 @@ from-bounded : (lo hi : ℤ) (d S : ℕ) (y : List ℤ) (rs : List Reading) → 
 unfolding over
 from-bounded lo hi d S y [] h = bounded-zero lo hi
 from-bounded lo hi d S y (r ∷ rs) h =
-    let w = weight d S (at (r .place)) (at y) in
+    let w = weight d S (at (r .position)) (at y) in
     bounded-plus lo hi (pos w, pos w *ℤ r .value) (massFrom d S rs y, valueFrom d S rs y) (bounded-share lo hi w (r .value) (h .0)) (from-bounded lo hi d S y rs (h .1))
 
 pub answer-within : (c : Settings) (t : Table) (rs : List Reading) → Built c t rs → (q : List ℤ) → code c t q ≡ 0 → Within (leastIn rs) (greatestIn rs) (answer c t q)

@@ -11,7 +11,7 @@ use Rattle.whole.specs.Rounding.{rounded}
 use Rattle.whole.specs.Lists.{at}
 use Rattle.whole.proofs.Linear.{on, difs, ints}
 use Rattle.whole.proofs.Parts.{natAbs-is, le-in, le-out}
-use Rattle.whole.proofs.Readings.{abs-pos}
+use Rattle.whole.proofs.Signed.{abs-pos}
 use Rattle.whole.proofs.Ring.{le-trans, le-or-lt}
 use Rattle.whole.proofs.Rounding.{rounded-is}
 use Rattle.whole.proofs.Tests.{T-true, T-false}
@@ -77,7 +77,7 @@ enters-each-reading c t r size U e =
     record {
       at-points = adds;
       elsewhere = λ k h. held-nothing c u U′ k h ∙ sym (held-nothing c t U k h);
-      stored = λ y Y. stored-grown c t u U U′ (take (c .d) y) (weight (c .d) (c .S) (at (r .place)) (at y)) (ap (λ (p : ℤ × ℤ). p .0) (adds y Y));
+      stored = λ y Y. stored-grown c t u U U′ (take (c .d) y) (weight (c .d) (c .S) (at (r .position)) (at y)) (ap (λ (p : ℤ × ℤ). p .0) (adds y Y));
       readings = entered-adds c t r size F e .count;
       points = poured-all c t rows (acceptable-pours c t rows 1 (reading-acceptable c t r F (accepted c t r size e))) .points;
     }

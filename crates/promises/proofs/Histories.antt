@@ -14,7 +14,7 @@ use Rattle.lattice.specs.Refusals.{other-length}
 use Rattle.table.specs.Table.{Settings, Table, Row, rows}
 use Rattle.table.specs.Reading.{Reading, parsed, shares}
 use Rattle.table.specs.Calls.{ranged, fits, freshRefusal, fresh, Outcome, enterAll, enterRefusal, enter, mergeRefusal, afterMerge}
-use Rattle.table.specs.Inner.{Ranged, Fine}
+use Rattle.table.specs.Sound.{Ranged, Fine}
 use Rattle.table.proofs.Rows.{Additive}
 use Rattle.table.proofs.Soundness.{to-ranged}
 use Rattle.table.proofs.Refusals.{first-zero}
@@ -23,7 +23,8 @@ use Rattle.table.proofs.Entering.{enterAll-adds, enter-all}
 use Rattle.table.proofs.Calls.{fresh-done, enter-done, enter-refused, merge-done, merge-refused}
 use Rattle.reader.specs.Items.{settingsOf}
 use Rattle.log.specs.Loading.{startRefusal, load}
-use Rattle.log.specs.Theorems.{items, tableOf, before}
+use Rattle.reader.specs.Walk.{items, before}
+use Rattle.log.specs.Theorems.{tableOf}
 use Rattle.log.proofs.Leaving.{load-accepted, start-zero}
 use Rattle.promises.specs.History.{History, starting, entering, merging, loading, capacity, settingsIn, run, Begun, taken, readings}
 use Rattle.promises.specs.Order.{AllTaken}

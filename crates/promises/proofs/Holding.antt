@@ -7,9 +7,8 @@ use lib.IntN.{ℤ}
 use lib.ListN.{take}
 use Rattle.whole.specs.Sum.{over}
 use Rattle.lattice.specs.Lattice.{Point}
-use Rattle.table.specs.Table.{Settings, Table, key, row, whole, held}
+use Rattle.table.specs.Table.{Settings, Table, key, row, whole, held, massOf}
 use Rattle.table.specs.Reading.{Reading, shares}
-use Rattle.table.specs.Inner.{massOf}
 use Rattle.table.proofs.Rows.{valueOf, gives, given}
 use Rattle.table.proofs.Good.{key-whole}
 use Rattle.table.proofs.Soundness.{fine-kept}

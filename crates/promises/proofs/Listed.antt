@@ -43,10 +43,10 @@ Before k j = T (before k j)
 -- ---- it does not depend on the order of the readings
 module _ (d S : ℕ) (rs qs : List Reading) (p : Perm rs qs) where
   mass-perm : (y : List ℤ) → massFrom d S rs y ≡ massFrom d S qs y
-  mass-perm y = over-perm (λ r. pos (weight d S (at (r .place)) (at y))) rs qs p
+  mass-perm y = over-perm (λ r. pos (weight d S (at (r .position)) (at y))) rs qs p
 
   value-perm : (y : List ℤ) → valueFrom d S rs y ≡ valueFrom d S qs y
-  value-perm y = over-perm (λ r. pos (weight d S (at (r .place)) (at y)) *ℤ r .value) rs qs p
+  value-perm y = over-perm (λ r. pos (weight d S (at (r .position)) (at y)) *ℤ r .value) rs qs p
 
   row-perm : (r : Row) → RowFrom d S rs r → RowFrom d S qs r
   row-perm r R = record { point = R .point; mass-is = R .mass-is ∙ mass-perm (whole (r .key)); value-is = R .value-is ∙ value-perm (whole (r .key)); some = R .some }

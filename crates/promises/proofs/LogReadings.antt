@@ -8,17 +8,16 @@ use lib.ListN.{length}
 use Rattle.whole.specs.Lists.{All}
 use Rattle.table.specs.Reading as table
 use Rattle.reader.specs.Items.{settingsOf, itemAt, widthOf}
-use Rattle.reader.specs.Walk.{Walk, reads, asks, ends, step, walkFrom, walk, after-settings, readings}
-use Rattle.log.specs.Theorems.{items, before}
+use Rattle.reader.specs.Walk.{Walk, reads, asks, ends, itemThen, walkFrom, walk, after-settings, readings, items, before}
 use Rattle.reader.specs.declared.items.Item.{Item}
 use Rattle.reader.specs.declared.items.Item.the-variants.{Reading, Query, End, Refused}
 use Rattle.reader.proofs.Forms.{Formed, formed}
 use Rattle.log.proofs.Leaving.{reading-size}
 
 abbrev pub Sized : ℕ → List table.Reading → Type 0
-Sized d rs = All (λ r. length (r .place) ≡ suc d) rs
+Sized d rs = All (λ r. length (r .position) ≡ suc d) rs
 
-sized-step : (l : List ℕ) (a : ℕ) (i : Item) (w : Walk) → Formed l a i → Sized (settingsOf l .d) (readings w) → Sized (settingsOf l .d) (readings (step l a i w))
+sized-step : (l : List ℕ) (a : ℕ) (i : Item) (w : Walk) → Formed l a i → Sized (settingsOf l .d) (readings w) → Sized (settingsOf l .d) (readings (itemThen l a i w))
 unfolding readings
 sized-step l a (Item.Settings d S C) w f h = tt
 sized-step l a (Reading d) w f h = (reading-size l a d f, h)

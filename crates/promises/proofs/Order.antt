@@ -6,9 +6,8 @@ use lib.IntN.{ℤ, pos}
 use lib.ListN.{length, length-map}
 use Rattle.whole.specs.Sum.{over}
 use Rattle.lattice.specs.Weight.{W}
-use Rattle.table.specs.Table.{Settings, Table, Row, row, rows}
+use Rattle.table.specs.Table.{Settings, Table, Row, row, rows, massOf}
 use Rattle.table.specs.Reading.{Reading}
-use Rattle.table.specs.Inner.{massOf}
 use Rattle.table.proofs.Lists.{over-tab, over-map}
 use Rattle.table.proofs.Soundness.{of-fine}
 use Rattle.table.proofs.Keeping.{rows-mass}

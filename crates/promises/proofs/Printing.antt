@@ -15,7 +15,7 @@ use Rattle.filter.specs.Answer.{code, answer}
 use Rattle.reader.specs.Items.{settingsOf}
 use Rattle.reader.specs.Walk as log
 use Rattle.log.specs.Loading.{load}
-use Rattle.log.specs.Theorems.{items}
+use Rattle.reader.specs.Walk.{items}
 use Rattle.text.specs.Text.{line}
 use Rattle.report.specs.Report.{point-word, headLine, pointLine, pointLines, answerLine, answerLines, perQuery, tableText}
 use Rattle.promises.specs.History.{loading, capacity, run, readings}

@@ -8,12 +8,12 @@ use Rattle.whole.proofs.Tests.{T-true, T-false}
 use Rattle.lattice.specs.Refusals.{first, settings-out-of-range, program-limit}
 use Rattle.table.specs.Table.{Settings}
 use Rattle.table.specs.Calls.{ranged, fresh}
-use Rattle.table.specs.Inner.{Ranged}
+use Rattle.table.specs.Sound.{Ranged}
 use Rattle.table.proofs.Soundness.{to-ranged, of-ranged}
 use Rattle.reader.specs.Items.{settingsOf, itemAt, numberOf}
 use Rattle.log.specs.Loading.{load}
 use Rattle.log.proofs.Leaving.{load-settings}
-use Rattle.report.specs.Report.{most-bytes, most-points, tableText, loadedText, settingsRefusal, settledText, report}
+use Rattle.report.specs.Report.{most-bytes, most-log-capacity, tableText, loadedText, settingsRefusal, settledText, report}
 use Rattle.promises.specs.Refusals.{Not}
 use Rattle.promises.specs.LogRefusals.{Prints}
 
@@ -35,13 +35,13 @@ module _ (l : List ℕ) where
   unfolding settingsRefusal first
   out-of-range e n = rw (e, T-false (ranged c) (λ t. n (to-ranged c t))) refl
 
-  wide : numberOf (itemAt l 0) ≡ 0 → Ranged c → most-points < c .C → settingsRefusal l ≡ program-limit
+  wide : numberOf (itemAt l 0) ≡ 0 → Ranged c → most-log-capacity < c .C → settingsRefusal l ≡ program-limit
   unfolding settingsRefusal first
-  wide e r h = rw (e, T-true (ranged c) (of-ranged c r), lt-leb (c .C) most-points h) refl
+  wide e r h = rw (e, T-true (ranged c) (of-ranged c r), lt-leb (c .C) most-log-capacity h) refl
 
-  accepted : numberOf (itemAt l 0) ≡ 0 → Ranged c → c .C ≤ most-points → settingsRefusal l ≡ 0
+  accepted : numberOf (itemAt l 0) ≡ 0 → Ranged c → c .C ≤ most-log-capacity → settingsRefusal l ≡ 0
   unfolding settingsRefusal first
-  accepted e r h = rw (e, T-true (ranged c) (of-ranged c r), le-leb (c .C) most-points h) refl
+  accepted e r h = rw (e, T-true (ranged c) (of-ranged c r), le-leb (c .C) most-log-capacity h) refl
 
   -- ---- a log with such settings is loaded
   module _ (h : length l ≤ most-bytes) (s : settingsRefusal l ≡ 0) where

@@ -17,11 +17,10 @@ use Rattle.lattice.specs.Refusals.{settings-out-of-range, other-length, not-sou
 use Rattle.lattice.specs.Position.{Position, allNear, sumsToZero, Judged}
 use Rattle.lattice.proofs.Judging.{judged-four, judged-five, judged-none, sum-zero, judged-right}
 use Rattle.table.specs.Table.{Settings, Table, Row, rows}
-use Rattle.table.specs.Sound.{sound, Sound}
+use Rattle.table.specs.Sound.{sound, Sound, Ranged, Shape, Fine}
 use Rattle.table.specs.Pour.{news}
 use Rattle.table.specs.Reading.{Reading, parsed, shares, refusal, entered}
 use Rattle.table.specs.Calls.{oneMore, ranged, fits, freshRefusal, callRefusal, enterRefusal, enterAll, enter, mergeRefusal}
-use Rattle.table.specs.Inner.{Ranged, Shape, Fine}
 use Rattle.table.proofs.Soundness.{to-ranged, of-ranged, to-shape, of-shape, to-sound, of-sound}
 use Rattle.table.proofs.Refusals.{T-of}
 use Rattle.table.proofs.Entering.{enter-yes, enter-ind}
@@ -143,37 +142,37 @@ module _ (c : Settings) (t : Table) (b : Settings) (s : Table) where
   }
 
 -- ---- a reading
-module _ (c : Settings) (t : Table) (r : Reading) (size : length (r .place) ≡ suc (c .d)) where
-  J : Judged (c .d) (r .place)
-  J = judged-right (c .d) (r .place) size
+module _ (c : Settings) (t : Table) (r : Reading) (size : length (r .position) ≡ suc (c .d)) where
+  J : Judged (c .d) (r .position)
+  J = judged-right (c .d) (r .position) size
 
   abbrev AllNear : Type 0
-  AllNear = (i : ℕ) → i < suc (c .d) → natAbs (at (r .place) i) ≤ farthest
+  AllNear = (i : ℕ) → i < suc (c .d) → natAbs (at (r .position) i) ≤ farthest
 
-  tells-near : Tells (allNear (r .place)) AllNear ((i : ℕ) × (i < suc (c .d)) × (farthest < natAbs (at (r .place) i)))
+  tells-near : Tells (allNear (r .position)) AllNear ((i : ℕ) × (i < suc (c .d)) × (farthest < natAbs (at (r .position) i)))
   tells-near = record {
-    pass = λ h. go (sumsToZero (r .place)) refl (T-true (allNear (r .place)) h);
-    fail = λ n. J .four .0 (judged-four (r .place) (T-false (allNear (r .place)) n));
+    pass = λ h. go (sumsToZero (r .position)) refl (T-true (allNear (r .position)) h);
+    fail = λ n. J .four .0 (judged-four (r .position) (T-false (allNear (r .position)) n));
     apart = λ h f. omega (arith, h (f .0) (f .1), f .2);
   }
     where
-      go : (b : Bool) → sumsToZero (r .place) ≡ b → allNear (r .place) ≡ true → AllNear
-      go true k e = λ i l. of-abs (at (r .place) i) farthest (J .none .0 (judged-none (r .place) e k) .near i l)
-      go false k e = J .five .0 (judged-five (r .place) e k) .0
+      go : (b : Bool) → sumsToZero (r .position) ≡ b → allNear (r .position) ≡ true → AllNear
+      go true k e = λ i l. of-abs (at (r .position) i) farthest (J .none .0 (judged-none (r .position) e k) .near i l)
+      go false k e = J .five .0 (judged-five (r .position) e k) .0
 
-  sum-same : sum (suc (c .d)) (at (r .place)) ≡ sum (length (r .place)) (at (r .place))
-  sum-same = ap (λ (n : ℕ). sum n (at (r .place))) (sym size)
+  sum-same : sum (suc (c .d)) (at (r .position)) ≡ sum (length (r .position)) (at (r .position))
+  sum-same = ap (λ (n : ℕ). sum n (at (r .position))) (sym size)
 
-  tells-zero : Tells (sumsToZero (r .place)) (sum (suc (c .d)) (at (r .place)) ≡ pos 0) (Not (sum (suc (c .d)) (at (r .place)) ≡ pos 0))
+  tells-zero : Tells (sumsToZero (r .position)) (sum (suc (c .d)) (at (r .position)) ≡ pos 0) (Not (sum (suc (c .d)) (at (r .position)) ≡ pos 0))
   unfolding sumsToZero
-  tells-zero = tells (λ h. sum-same ∙ size-zero (sum (length (r .place)) (at (r .place))) (eqb→eq _ 0 h)) (λ e. T-of (sum-zero (r .place) (sym sum-same ∙ e)))
+  tells-zero = tells (λ h. sum-same ∙ size-zero (sum (length (r .position)) (at (r .position))) (eqb→eq _ 0 h)) (λ e. T-of (sum-zero (r .position) (sym sum-same ∙ e)))
 
   -- past 4 and 5 it is a position
   at-position : {x : ℕ} {l : List (Bool × ℕ)} {B : Type 0} → T (not (eqb x coordinate-beyond)) → T (not (eqb x sum-not-zero)) → Gives l x B
-      → Gives ((allNear (r .place), coordinate-beyond) ∷ (sumsToZero (r .place), sum-not-zero) ∷ l) x (Position (c .d) (r .place) × B)
+      → Gives ((allNear (r .position), coordinate-beyond) ∷ (sumsToZero (r .position), sum-not-zero) ∷ l) x (Position (c .d) (r .position) × B)
   at-position n₄ n₅ h = reworded (goes tells-near n₄ (goes tells-zero n₅ h)) (
-    λ p. (record { size = size; near = λ i l. abs-of (at (r .place) i) farthest (p .0 i l); zero-sum = p .1 .0 }, p .1 .1),
-    λ p. (λ i l. of-abs (at (r .place) i) farthest (p .0 .near i l), (p .0 .zero-sum, p .1)),
+    λ p. (record { size = size; near = λ i l. abs-of (at (r .position) i) farthest (p .0 i l); zero-sum = p .1 .0 }, p .1 .1),
+    λ p. (λ i l. of-abs (at (r .position) i) farthest (p .0 .near i l), (p .0 .zero-sum, p .1)),
   )
 
   reading-refused : ReadingRefused c t r

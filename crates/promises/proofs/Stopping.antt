@@ -14,9 +14,8 @@ use Rattle.table.specs.Reading as table
 use Rattle.table.specs.Calls.{Outcome, enterAll, fresh, freshRefusal}
 use Rattle.table.proofs.Entering.{enter-yes}
 use Rattle.reader.specs.Items.{settingsOf, itemAt, valuesOf, widthOf}
-use Rattle.reader.specs.Walk.{Walk, reads, asks, ends, after-settings, step, walkFrom, walk, readings}
+use Rattle.reader.specs.Walk.{Walk, reads, asks, ends, after-settings, itemThen, walkFrom, walk, readings, items, Place, before}
 use Rattle.log.specs.Loading.{Load, orElse, startRefusal, stopAt, loadWalk, started, load}
-use Rattle.log.specs.Theorems.{items, Place, before}
 use Rattle.reader.specs.declared.items.Item.{Item}
 use Rattle.reader.specs.declared.items.Item.the-variants.{Reading, Query, End, Refused}
 use Rattle.reader.proofs.Forms.{Formed, formed}
@@ -120,12 +119,12 @@ module _ (l : List ℕ) where
         none p (inl z) h = subst (λ (p : ℕ). numberIn (tableAt c t v p) p ≡ 0) (sym z) e
         none p (inr z) h = ap (λ (u : Table). numberIn u p) (same p (after p z) .1) ∙ S .none-before p z h
 
-    stops-query : (d : ℕ) → itemAt l a ≡ Query d → Loading t w → Loading t (step l a (Query d) w)
+    stops-query : (d : ℕ) → itemAt l a ≡ Query d → Loading t w → Loading t (itemThen l a (Query d) w)
     unfolding loadWalk
-    stops-query d e = goes-on t (step l a (Query d) w) _ (λ p. inr) (λ p z. z) (ap (numberFor l _ a) e) (after-query c t a w (valuesOf l a (Query d)))
+    stops-query d e = goes-on t (itemThen l a (Query d) w) _ (λ p. inr) (λ p z. z) (ap (numberFor l _ a) e) (after-query c t a w (valuesOf l a (Query d)))
         (readings-past-query c t a w (valuesOf l a (Query d)))
 
-    stops-reading : (d : ℕ) → itemAt l a ≡ Reading d → ((u : Table) → Loading u w) → Loading t (step l a (Reading d) w)
+    stops-reading : (d : ℕ) → itemAt l a ≡ Reading d → ((u : Table) → Loading u w) → Loading t (itemThen l a (Reading d) w)
     unfolding loadWalk
     stops-reading d e k = go (table.refusal c t r) refl
       where
@@ -140,7 +139,7 @@ module _ (l : List ℕ) where
         go (suc x) y = stops-refused r x (ap (numberFor l t a) e ∙ y)
 
   stops-step : (t : Table) (a : ℕ) (i : Item) (w : Walk) → itemAt l a ≡ i → Formed l a i → ((p : ℕ) → Place p w → a + widthOf i ≤ p)
-      → (0 < widthOf i → a + widthOf i ≤ length l → (u : Table) → Loading u w) → Loading t (step l a i w)
+      → (0 < widthOf i → a + widthOf i ≤ length l → (u : Table) → Loading u w) → Loading t (itemThen l a i w)
   stops-step t a (Item.Settings d S C) w e f g k = stops-end t a _ (ap (numberFor l t a) e)
   stops-step t a (Reading d) w e f g k = stops-reading t a w (λ p z. omega (arith, g p z)) d e (k (omega arith) (f .whole))
   stops-step t a (Query d) w e f g k = stops-query t a w (λ p z. omega (arith, g p z)) d e (k (omega arith) (f .whole) t)

@@ -10,9 +10,8 @@ use denote.Ref.{RefT}
 use Rattle.table.specs.declared.Head.{Head}
 use Rattle.table.specs.Table.{Settings, Table}
 use Rattle.table.specs.Calls.{lent, freshRefusal, afterFresh, enterRefusal, enter, mergeRefusal, afterMerge}
-use Rattle.table.specs.Heads.{Answers, Holds}
+use Rattle.table.specs.Heads.{Answers, Holds, Enters}
 use Rattle.simplex.specs.Slots.{Encloses}
-use Rattle.enter.specs.Entering.{Enters}
 use Rattle.listing.specs.Listing.{listRefusal, afterList, Lists}
 use Rattle.blur.specs.Inner.{PairIs, Blurred}
 use Rattle.filter.specs.Filter.{Lent, filterRefusal, afterFilter, Filters}
@@ -123,7 +122,7 @@ EqualOnly = (A : Type 0) (x : A) → Only (λ (r : A). r ≡ x)
 
 -- the others say more parts.
 pub record InnerOnly : Type 0 where
-  pub pair-at : (x : ℕ) → Only (λ (r : ℕ). (r ≡ x) × (r < 65536))
+  pub two-bytes-at : (x : ℕ) → Only (λ (r : ℕ). (r ≡ x) × (r < 65536))
   pub enclose : (d S : ℕ) (x : List ℤ) → Only (λ (r : List ℕ × List ℤ). Encloses d S x (r .0) (r .1))
   pub add-row : (t : Table) → Only (λ (r : ℕ × List ℤ × List ℤ × List ℕ). Holds t (r .0) (r .1) (r .2) (r .3))
   pub enter-one : (c : Settings) (x : ℕ) (t : Table) → Only (AnswerAllows c x t)

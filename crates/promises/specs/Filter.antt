@@ -22,16 +22,16 @@ use Rattle.filter.specs.Answer.{weighted, code, answer}
 -- "To enter a reading (x, v)": at every lattice point the pair grows by (weight, weight·v), and by nothing at any other key
 pub record Entered (c : Settings) (t : Table) (r : Reading) : Type 0 where
   pub at-points : (y : List ℤ) → Point (c .d) y
-      → held c (entered c t r) (take (c .d) y) ≡ plus (held c t (take (c .d) y)) (let w = pos (weight (c .d) (c .S) (at (r .place)) (at y)) in (w, w *ℤ r .value))
+      → held c (entered c t r) (take (c .d) y) ≡ plus (held c t (take (c .d) y)) (let w = pos (weight (c .d) (c .S) (at (r .position)) (at y)) in (w, w *ℤ r .value))
   pub elsewhere : (k : List ℤ) → ((y : List ℤ) → Point (c .d) y → take (c .d) y ≡ k → ⊥) → held c (entered c t r) k ≡ held c t k
   -- "A point of weight 0 is not stored.": what is stored was stored before, or has weight above 0
-  pub stored : (y : List ℤ) → Point (c .d) y → (0 < found c (entered c t r) (take (c .d) y)) ↔ ((0 < found c t (take (c .d) y)) ⊎ (0 < weight (c .d) (c .S) (at (r .place)) (at y)))
+  pub stored : (y : List ℤ) → Point (c .d) y → (0 < found c (entered c t r) (take (c .d) y)) ↔ ((0 < found c t (take (c .d) y)) ⊎ (0 < weight (c .d) (c .S) (at (r .position)) (at y)))
   pub readings : entered c t r .n ≡ t .n + 1
   -- "Only the points that are new count."
   pub points : entered c t r .m ≡ t .m + news c t (shares (c .d) (c .S) r)
 
 abbrev pub EntersEachReading : Type 0
-EntersEachReading = (c : Settings) (t : Table) (r : Reading) → length (r .place) ≡ suc (c .d) → Usable c t → refusal c t r ≡ 0 → Entered c t r
+EntersEachReading = (c : Settings) (t : Table) (r : Reading) → length (r .position) ≡ suc (c .d) → Usable c t → refusal c t r ≡ 0 → Entered c t r
 
 -- "Each stored point's new pair is its old pair twice, plus the old pairs at point plus step and at point minus step; a neighbour that is not stored
 -- counts as 0.": pass k of one of the two numbers of each point, f before it and g after it

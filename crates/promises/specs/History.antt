@@ -10,7 +10,7 @@ use Rattle.table.specs.Calls.{freshRefusal, afterFresh, enter, mergeRefusal, af
 use Rattle.reader.specs.Items.{settingsOf}
 use Rattle.reader.specs.Walk as log
 use Rattle.log.specs.Loading.{startRefusal, load}
-use Rattle.log.specs.Theorems.{items, before}
+use Rattle.reader.specs.Walk.{items, before}
 
 -- Calls one after the other that end in one table. A table that is merged in has a history of its own: so it is merged once, and when all that
 -- belongs in it is in.

@@ -9,7 +9,7 @@ use Rattle.lattice.specs.Refusals.{settings-out-of-range, kind-not-listed, sett
 use Rattle.table.specs.Table.{Table}
 use Rattle.table.specs.Reading.{readingAt, refusal}
 use Rattle.table.specs.Calls.{enterAll, fresh, freshRefusal}
-use Rattle.table.specs.Inner.{Ranged}
+use Rattle.table.specs.Sound.{Ranged}
 use Rattle.reader.specs.Bytes.{byteAt}
 use Rattle.reader.specs.Kinds.{kindOf, bodyLength, isListed, isSettings, ofDimension}
 use Rattle.reader.specs.declared.kinds.Kind.{Kind}
@@ -17,8 +17,9 @@ use Rattle.reader.specs.declared.items.Item.{Item}
 use Rattle.reader.specs.declared.items.Item.the-variants.{Reading, Query, End, Refused}
 use Rattle.reader.specs.Items.{settingsOf, placed, itemAt, numberOf, valuesOf}
 use Rattle.log.specs.Loading.{Load, notStarted, load}
-use Rattle.log.specs.Theorems.{items, tableOf, Place, before}
-use Rattle.report.specs.Report.{most-bytes, most-points, refusedLine, tableText, report}
+use Rattle.reader.specs.Walk.{items, Place, before}
+use Rattle.log.specs.Theorems.{tableOf}
+use Rattle.report.specs.Report.{most-bytes, most-log-capacity, refusedLine, tableText, report}
 use Rattle.promises.specs.Refusals.{Not}
 
 -- "Per item: 12, 13, 14, 15": the item at the offset a, of the kind k that its byte says. "An empty log is 13 at 0."
@@ -67,10 +68,10 @@ pub record Prints (l : List ℕ) : Type 0 where
   pub too-long : most-bytes < length l → report l ≡ refusedLine program-limit most-bytes
   pub settings-form : length l ≤ most-bytes → (x : ℕ) → numberOf (itemAt l 0) ≡ suc x → report l ≡ refusedLine (suc x) 0
   pub settings-range : length l ≤ most-bytes → numberOf (itemAt l 0) ≡ 0 → Not (Ranged (settingsOf l)) → report l ≡ refusedLine settings-out-of-range 0
-  pub too-wide : length l ≤ most-bytes → numberOf (itemAt l 0) ≡ 0 → Ranged (settingsOf l) → most-points < settingsOf l .C → report l ≡ refusedLine program-limit 0
-  pub refused : length l ≤ most-bytes → numberOf (itemAt l 0) ≡ 0 → Ranged (settingsOf l) → settingsOf l .C ≤ most-points
+  pub too-wide : length l ≤ most-bytes → numberOf (itemAt l 0) ≡ 0 → Ranged (settingsOf l) → most-log-capacity < settingsOf l .C → report l ≡ refusedLine program-limit 0
+  pub refused : length l ≤ most-bytes → numberOf (itemAt l 0) ≡ 0 → Ranged (settingsOf l) → settingsOf l .C ≤ most-log-capacity
       → (x : ℕ) → load l (fresh (settingsOf l)) .number ≡ suc x → report l ≡ refusedLine (suc x) (load l (fresh (settingsOf l)) .offset)
-  pub taken : length l ≤ most-bytes → numberOf (itemAt l 0) ≡ 0 → Ranged (settingsOf l) → settingsOf l .C ≤ most-points
+  pub taken : length l ≤ most-bytes → numberOf (itemAt l 0) ≡ 0 → Ranged (settingsOf l) → settingsOf l .C ≤ most-log-capacity
       → load l (fresh (settingsOf l)) .number ≡ 0 → report l ≡ tableText (settingsOf l) (load l (fresh (settingsOf l)) .table) l
 
 -- Statement: all of these, for every input.

@@ -12,11 +12,10 @@ use Rattle.lattice.specs.Limits.{farthest, most-value, most-readings}
 use Rattle.lattice.specs.Refusals.{settings-out-of-range, other-length, not-sound, coordinate-beyond, sum-not-zero, value-beyond, too-many-readings, too-many-points, settings-differ, no-mass-met}
 use Rattle.lattice.specs.Position.{Position}
 use Rattle.table.specs.Table.{Settings, Table, rows}
-use Rattle.table.specs.Sound.{Sound}
+use Rattle.table.specs.Sound.{Sound, Ranged, Shape, Fine}
 use Rattle.table.specs.Pour.{news}
 use Rattle.table.specs.Reading.{Reading, parsed, shares, refusal}
 use Rattle.table.specs.Calls.{Outcome, freshRefusal, enterRefusal, enterAll, enter, mergeRefusal}
-use Rattle.table.specs.Inner.{Ranged, Shape, Fine}
 use Rattle.table.specs.Theorems.{Usable}
 use Rattle.listing.specs.Listing.{listRefusal}
 use Rattle.filter.specs.Answer.{code}
@@ -75,14 +74,14 @@ abbrev pub Fair : Reading → Type 0
 Fair r = natAbs (r .value) ≤ most-value
 
 pub record ReadingRefused (c : Settings) (t : Table) (r : Reading) : Type 0 where
-  pub four : refusal c t r ≡ coordinate-beyond ↔ (i : ℕ) × (i < suc (c .d)) × (farthest < natAbs (at (r .place) i))
-  pub five : refusal c t r ≡ sum-not-zero ↔ ((i : ℕ) → i < suc (c .d) → natAbs (at (r .place) i) ≤ farthest) × Not (sum (suc (c .d)) (at (r .place)) ≡ pos 0)
-  pub six : refusal c t r ≡ value-beyond ↔ Position (c .d) (r .place) × Not (Fair r)
-  pub seven : refusal c t r ≡ too-many-readings ↔ Position (c .d) (r .place) × Fair r × (most-readings < t .n + 1)
+  pub four : refusal c t r ≡ coordinate-beyond ↔ (i : ℕ) × (i < suc (c .d)) × (farthest < natAbs (at (r .position) i))
+  pub five : refusal c t r ≡ sum-not-zero ↔ ((i : ℕ) → i < suc (c .d) → natAbs (at (r .position) i) ≤ farthest) × Not (sum (suc (c .d)) (at (r .position)) ≡ pos 0)
+  pub six : refusal c t r ≡ value-beyond ↔ Position (c .d) (r .position) × Not (Fair r)
+  pub seven : refusal c t r ≡ too-many-readings ↔ Position (c .d) (r .position) × Fair r × (most-readings < t .n + 1)
   pub eight : refusal c t r ≡ too-many-points
-      ↔ Position (c .d) (r .place) × Fair r × (t .n + 1 ≤ most-readings) × (c .C < t .m + news c t (shares (c .d) (c .S) r))
+      ↔ Position (c .d) (r .position) × Fair r × (t .n + 1 ≤ most-readings) × (c .C < t .m + news c t (shares (c .d) (c .S) r))
   pub none : refusal c t r ≡ 0
-      ↔ Position (c .d) (r .place) × Fair r × (t .n + 1 ≤ most-readings) × (t .m + news c t (shares (c .d) (c .S) r) ≤ c .C)
+      ↔ Position (c .d) (r .position) × Fair r × (t .n + 1 ≤ most-readings) × (t .m + news c t (shares (c .d) (c .S) r) ≤ c .C)
 
 -- "It stops at the first refused reading and answers how many it took, the number (0 if all), and the new head. The table holds those taken and
 -- nothing of the refused one.": the readings taken, entered alone, are all taken and leave that table; the next is refused with the number
@@ -102,7 +101,7 @@ pub record RefusalsExact : Type 0 where
   pub fresh-call : (c : Settings) (t : Table) → FreshRefuses c t
   pub enter-call : (c : Settings) (t : Table) (l : List ℤ) → CallRefuses c t (EnterLengths c t l) (enterRefusal c t l)
   pub enter-stops : (c : Settings) (t : Table) (l : List ℤ) → enterRefusal c t l ≡ 0 → EnterStops c t (parsed (c .d) l) (enter c t l)
-  pub reading : (c : Settings) (t : Table) (r : Reading) → length (r .place) ≡ suc (c .d) → ReadingRefused c t r
+  pub reading : (c : Settings) (t : Table) (r : Reading) → length (r .position) ≡ suc (c .d) → ReadingRefused c t r
   pub merge-call : (c : Settings) (t : Table) (b : Settings) (s : Table) → MergeRefuses c t b s
   pub list-call : (c : Settings) (t : Table) (l : List ℕ) → CallRefuses c t (ListLengths c t l) (listRefusal c t l)
   pub filter-call : (c : Settings) (t : Table) (queries : List ℤ) (l : Lent) → CallRefuses c t (FilterLengths c t queries l) (filterRefusal c t queries l)

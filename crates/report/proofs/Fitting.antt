@@ -21,7 +21,7 @@ use Rattle.reader.specs.Walk.{Walk, reads, asks, ends, after-settings, walk, qu
 use Rattle.log.specs.Loading.{load}
 use Rattle.reader.proofs.Walking.{query-count}
 use Rattle.log.proofs.Leaving.{load-settings, load-fine}
-use Rattle.report.specs.Report.{most-bytes, most-points, head-word, point-word, answer-word, refused-word, headLine, pointNumbers, pointLine, pointLines, answerLine, perQuery, tableText, refusedLine, loadedText, settingsRefusal, settledText, report, room}
+use Rattle.report.specs.Report.{most-bytes, most-log-capacity, head-word, point-word, answer-word, refused-word, headLine, pointNumbers, pointLine, pointLines, answerLine, perQuery, tableText, refusedLine, loadedText, settingsRefusal, settledText, report, room}
 use Rattle.report.specs.Inner.{Printable}
 use Rattle.report.proofs.Settling.{few-points}
 use Rattle.report.proofs.Numbers.{numbers-size}
@@ -77,7 +77,7 @@ table-fits c t l h P =
 abbrev pub textIn : List ℕ → Table → List ℕ
 textIn l t = loadedText l (load l t .number) (load l t)
 
-pub loaded-fits : (l : List ℕ) (t : Table) → length l ≤ most-bytes → settingsOf l .C ≤ most-points → length (textIn l t) ≤ room
+pub loaded-fits : (l : List ℕ) (t : Table) → length l ≤ most-bytes → settingsOf l .C ≤ most-log-capacity → length (textIn l t) ≤ room
 loaded-fits l t h k = go (load l t .number) refl
   where
     go : (x : ℕ) → load l t .number ≡ x → length (loadedText l x (load l t)) ≤ room

@@ -1,4 +1,4 @@
-pub mod Agreeing
+pub mod Worked
 pub mod Numbers
 pub mod Rows
 pub mod Replies

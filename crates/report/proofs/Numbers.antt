@@ -16,7 +16,7 @@ use Rattle.whole.specs.Sum.{sum, over}
 use Rattle.whole.specs.Lists.{at, tab}
 use Rattle.whole.proofs.Lists.{length-tab, getD-tab}
 use Rattle.whole.proofs.Parts.{zin}
-use Rattle.whole.proofs.Readings.{zlin, zeq}
+use Rattle.whole.proofs.Signed.{zlin, zeq}
 use Rattle.whole.proofs.Sum.{sum-cong, sum-list}
 use Rattle.lattice.specs.Limits.{most-d}
 use Rattle.index.specs.Keys.{keyAt}

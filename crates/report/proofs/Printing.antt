@@ -12,7 +12,7 @@ use Rattle.table.specs.declared.Head.{Head}
 use Rattle.table.specs.Table.{Settings, Table}
 use Rattle.table.specs.Calls.{lent, fresh}
 use Rattle.table.specs.Heads.{settings, table}
-use Rattle.table.specs.Inner.{Fine}
+use Rattle.table.specs.Sound.{Fine}
 use Rattle.text.specs.Text.{Written}
 use Rattle.text.proofs.Lines.{written-then, written-room}
 use Rattle.reader.specs.Items.{settingsOf}
@@ -20,7 +20,7 @@ use Rattle.reader.specs.Walk.{walk, after-settings}
 use Rattle.log.specs.Loading.{Load, load, Loads}
 use Rattle.table.proofs.Calls.{answered}
 use Rattle.log.proofs.Leaving.{load-offset, load-settings, load-fine}
-use Rattle.report.specs.Report.{most-points, headLine, pointLines, answerLines, refusedLine, tableText, loadedText, settledText}
+use Rattle.report.specs.Report.{most-log-capacity, headLine, pointLines, answerLines, refusedLine, tableText, loadedText, settledText}
 use Rattle.report.specs.Inner.{countsLine, HeadRoom, RefusedRoom, PointsRoom, AnswersRoom, TableRoom, LentFor, Settled}
 use Rattle.report.proofs.Fitting.{textIn, loaded-fits}
 
@@ -105,7 +105,7 @@ module _ (l : List ℕ) (t : Table) {number offset : ℕ} {head : Head} {keys su
     table-room G = record {
       printable = record {
         fine = subst (λ (c : Settings). Fine c left) (sym same) (subst (Fine (settingsOf l)) (sym table-left) (load-fine l t none));
-        few = subst (λ (c : Settings). c .C ≤ most-points) (sym same) (G .taken .few);
+        few = subst (λ (c : Settings). c .C ≤ most-log-capacity) (sym same) (G .taken .few);
       };
       settings-are = same;
       space = rw text-taken at (G .space);
@@ -129,7 +129,7 @@ module _ (l : List ℕ) (d C size : ℕ) (S : Settled l d C size) where
   kept-most =
       let T = S .taken in
       let p : d ≤ most-d = omega (arith, S .d-is, T .ranged .d-most) in
-      let q : C ≤ most-points = omega (arith, S .capacity-is, T .few) in
+      let q : C ≤ most-log-capacity = omega (arith, S .capacity-is, T .few) in
       mul-le-mul p q
 
   memory-fresh : memory d C ≡ fresh (settingsOf l)

@@ -19,7 +19,7 @@ use Rattle.filter.specs.Inner.{ReplyIs}
 use Rattle.filter.proofs.Answers.{smooth, code-same, value-same}
 use Rattle.reader.specs.Bytes.{signedAt}
 use Rattle.reader.specs.Items.{itemAt, widthOf}
-use Rattle.reader.specs.Walk.{Walk, step, after-settings, walk}
+use Rattle.reader.specs.Walk.{Walk, itemThen, after-settings, walk}
 use Rattle.reader.specs.Inner.{Inside, padded}
 use Rattle.reader.specs.declared.items.Item.{Item}
 use Rattle.reader.specs.declared.items.Item.the-variants.{Reading, Query, End, Refused}
@@ -77,7 +77,7 @@ whole-item l a (Refused x) h n f = absurd (n refl)
 
 module _ (c : Settings) (t : Table) (l : List ℕ) where
   step-text : (a : ℕ) (i : Item) (w : Walk) → 0 < a → (widthOf i ≡ 0 → ⊥) → Formed l a i
-      → perQuery (replyLine c t) (step l a i w) ≡ replyText c t l a i ++ perQuery (replyLine c t) w
+      → perQuery (replyLine c t) (itemThen l a i w) ≡ replyText c t l a i ++ perQuery (replyLine c t) w
   unfolding perQuery
   step-text a (Item.Settings d S C) w h n f = absurd (omega arith)
   step-text a (Reading d) w h n f = refl
@@ -85,7 +85,7 @@ module _ (c : Settings) (t : Table) (l : List ℕ) where
   step-text a End w h n f = absurd (n refl)
   step-text a (Refused x) w h n f = absurd (n refl)
 
-  last-text : (a : ℕ) (i : Item) (w : Walk) → widthOf i ≡ 0 → perQuery (replyLine c t) (step l a i w) ≡ []
+  last-text : (a : ℕ) (i : Item) (w : Walk) → widthOf i ≡ 0 → perQuery (replyLine c t) (itemThen l a i w) ≡ []
   unfolding perQuery
   last-text a (Item.Settings d S C) w z = refl
   last-text a (Reading d) w z = absurd (omega arith)
@@ -121,8 +121,8 @@ module _ {c : Settings} {t : Table} {l o : List ℕ} {a next : ℕ} {out : List 
       ahead : linesFrom c t l offset ≡ replyText c t l offset i ++ linesFrom c t l after
       ahead = rw k (walk-lines ∙ step-text c t l offset i (walk l (offset + widthOf i)) (P .later) some (of-form l offset i e))
         where
-          walk-lines : linesFrom c t l offset ≡ perQuery (replyLine c t) (step l offset i (walk l (offset + widthOf i)))
-          walk-lines = ap (perQuery (replyLine c t)) (walk-step l offset ∙ ap (λ (i : Item). step l offset i (walk l (offset + widthOf i))) (sym e))
+          walk-lines : linesFrom c t l offset ≡ perQuery (replyLine c t) (itemThen l offset i (walk l (offset + widthOf i)))
+          walk-lines = ap (perQuery (replyLine c t)) (walk-step l offset ∙ ap (λ (i : Item). itemThen l offset i (walk l (offset + widthOf i))) (sym e))
 
       all-lines : (P .done ++ replyText c t l offset i) ++ linesFrom c t l after ≡ linesFrom c t l after-settings
       all-lines = append-assoc (P .done) (replyText c t l offset i) (linesFrom c t l after) ∙ ap (λ (x : List ℕ). P .done ++ x) (sym ahead) ∙ P .whole

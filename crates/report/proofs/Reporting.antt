@@ -8,7 +8,7 @@ use borrow.Author.Tests.{le-leb, lt-leb}
 use Rattle.lattice.specs.Refusals.{program-limit}
 use Rattle.whole.proofs.Lists.{splice-none}
 use Rattle.text.specs.Text.{Written}
-use Rattle.report.specs.declared.Opening.{Opening}
+use Rattle.report.specs.declared.opening.Opening.{Opening}
 use Rattle.report.specs.Report.{most-bytes, refusedLine, settledText, report, room, fitting, Reports}
 use Rattle.report.specs.Inner.{RefusedRoom, Opens, Settled}
 use Rattle.report.proofs.Fitting.{refused-fits}

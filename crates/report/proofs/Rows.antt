@@ -13,9 +13,8 @@ use Rattle.whole.specs.Lists.{collect}
 use Rattle.whole.proofs.Tests.{and-i, T-true}
 use Rattle.lattice.specs.Refusals.{first}
 use Rattle.table.specs.Table.{Settings, Table}
-use Rattle.table.specs.Sound.{sound}
+use Rattle.table.specs.Sound.{sound, Fine}
 use Rattle.table.specs.Calls.{ranged, fits, callRefusal}
-use Rattle.table.specs.Inner.{Fine}
 use Rattle.table.proofs.Refusals.{T-of}
 use Rattle.table.proofs.Soundness.{of-ranged, of-shape, of-sound}
 use Rattle.listing.specs.Listing.{order, afterList, Lists}

@@ -9,7 +9,7 @@ use borrow.Author.Tests.{le-leb, lt-leb}
 use Rattle.lattice.specs.Refusals.{first, settings-out-of-range, program-limit}
 use Rattle.table.specs.Table.{Settings}
 use Rattle.table.specs.Calls.{ranged}
-use Rattle.table.specs.Inner.{Ranged}
+use Rattle.table.specs.Sound.{Ranged}
 use Rattle.table.proofs.Refusals.{first-zero, first-at, passed, failed, T-of}
 use Rattle.table.proofs.Soundness.{to-ranged}
 use Rattle.reader.specs.Items.{settingsOf, itemAt, numberOf}
@@ -18,23 +18,23 @@ use Rattle.reader.specs.declared.items.Item.{Item}
 use Rattle.reader.proofs.Forms.{AtStart, Formed, of-form}
 use Rattle.log.proofs.Leaving.{either-zero}
 use Rattle.log.proofs.Starting.{NoStart, no-start, or-first}
-use Rattle.report.specs.declared.Opening.{Opening}
-use Rattle.report.specs.Report.{most-points, settingsRefusal}
+use Rattle.report.specs.declared.opening.Opening.{Opening}
+use Rattle.report.specs.Report.{most-log-capacity, settingsRefusal}
 use Rattle.report.specs.Inner.{Opens}
 
 -- what is tested of settings that are there
 abbrev own : Settings → ℕ
-own c = first ((ranged c, settings-out-of-range) ∷ (leb (c .C) most-points, program-limit) ∷ [])
+own c = first ((ranged c, settings-out-of-range) ∷ (leb (c .C) most-log-capacity, program-limit) ∷ [])
 
 -- settings that are not refused have few points
-pub few-points : (l : List ℕ) → settingsRefusal l ≡ 0 → settingsOf l .C ≤ most-points
+pub few-points : (l : List ℕ) → settingsRefusal l ≡ 0 → settingsOf l .C ≤ most-log-capacity
 unfolding settingsRefusal
 few-points l e =
     let c = settingsOf l in
     let (p, q) = either-zero (numberOf (itemAt l 0)) (own c) e in
-    let (t, r) = first-zero (ranged c) 0 ((leb (c .C) most-points, program-limit) ∷ []) q in
-    let (u, s) = first-zero (leb (c .C) most-points) 15 [] r in
-    leb→le (c .C) most-points u
+    let (t, r) = first-zero (ranged c) 0 ((leb (c .C) most-log-capacity, program-limit) ∷ []) q in
+    let (u, s) = first-zero (leb (c .C) most-log-capacity) 15 [] r in
+    leb→le (c .C) most-log-capacity u
 
 -- ---- by the item at offset 0
 abbrev refused : ℕ → Opening
@@ -78,17 +78,17 @@ module _ (l : List ℕ) (i : Item) (e : i ≡ itemAt l 0) where
       opens-outside {o} n p =
           opens-refused l settings-out-of-range o (own-is ∙ first-at (ranged c) settings-out-of-range _ (failed (ranged c) r n)) (λ y. omega arith) p
 
-      pub opens-wide : {o : Opening} → not t ≡ false → most-points < C → o ≡ refused program-limit → Opens l o
+      pub opens-wide : {o : Opening} → not t ≡ false → most-log-capacity < C → o ≡ refused program-limit → Opens l o
       unfolding first
       opens-wide {o} n h p =
-          opens-refused l program-limit o (own-is ∙ rw (passed (ranged c) r n, lt-leb C most-points h) refl) (λ y. omega arith) p
+          opens-refused l program-limit o (own-is ∙ rw (passed (ranged c) r n, lt-leb C most-log-capacity h) refl) (λ y. omega arith) p
 
-      pub opens-taken : not t ≡ false → C ≤ most-points → Opens l (record { number = 0; d = d; capacity = C })
+      pub opens-taken : not t ≡ false → C ≤ most-log-capacity → Opens l (record { number = 0; d = d; capacity = C })
       unfolding first
       opens-taken n h =
           let f = at-start in
           record {
-            number-is = sym (own-is ∙ rw (passed (ranged c) r n, le-leb C most-points h) refl);
+            number-is = sym (own-is ∙ rw (passed (ranged c) r n, le-leb C most-log-capacity h) refl);
             d-is = λ y. f .d-is;
             capacity-is = λ y. f .C-is;
             ranged = λ y. subst Ranged same (to-ranged c (T-of (passed (ranged c) r n)));

@@ -8,7 +8,7 @@ use Rattle.lattice.specs.Limits.{most-d, most-readings}
 use Rattle.table.specs.declared.Head.{Head}
 use Rattle.table.specs.Table.{Settings, Table}
 use Rattle.table.specs.Heads.{settings, table}
-use Rattle.table.specs.Inner.{Ranged, Fine}
+use Rattle.table.specs.Sound.{Ranged, Fine}
 use Rattle.blur.specs.Blur.{masses, values}
 use Rattle.filter.specs.Answer.{codeBy, valueBy}
 use Rattle.filter.specs.Inner.{Smooth}
@@ -18,8 +18,8 @@ use Rattle.reader.specs.Walk.{after-settings, walk}
 use Rattle.log.specs.Loading.{load}
 use Rattle.reader.specs.declared.items.Item.{Item}
 use Rattle.reader.specs.declared.items.Item.the-variants.{Reading, Query, End, Refused}
-use Rattle.report.specs.declared.Opening.{Opening}
-use Rattle.report.specs.Report.{most-bytes, most-points, room, headLine, pointNumbers, pointLine, pointLines, answerLine, answerLines, perQuery, tableText, settingsRefusal, refusedLine, loadedText}
+use Rattle.report.specs.declared.opening.Opening.{Opening}
+use Rattle.report.specs.Report.{most-bytes, most-log-capacity, room, headLine, pointNumbers, pointLine, pointLines, answerLine, answerLines, perQuery, tableText, settingsRefusal, refusedLine, loadedText}
 
 -- as many numbers as a line has at most: six coordinates, a mass and a value sum
 abbrev pub most-numbers : ℕ
@@ -33,7 +33,7 @@ countsLine h = headLine (settings h) (table h [] [] [])
 pub record HeadRoom (h : Head) (size : ℕ) : Type 0 where
   pub d-most : h .d ≤ most-d
   pub readings-most : h .readings ≤ most-readings
-  pub points-most : h .points ≤ most-points
+  pub points-most : h .points ≤ most-log-capacity
   pub space : length (countsLine h) ≤ size
 
 -- an offset of a log that the program takes, and room for the line of a refusal
@@ -44,7 +44,7 @@ pub record RefusedRoom (x a size : ℕ) : Type 0 where
 -- A sound table that the program has memory for.
 pub record Printable (c : Settings) (t : Table) : Type 0 where
   pub fine : Fine c t
-  pub few : c .C ≤ most-points
+  pub few : c .C ≤ most-log-capacity
 
 -- the numbers of a point's line in an array, with 0 in the rest
 abbrev pub padded : Settings → Table → ℕ → List ℤ
@@ -115,13 +115,13 @@ pub record Opens (l : List ℕ) (o : Opening) : Type 0 where
   pub d-is : o .number ≡ 0 → o .d ≡ settingsOf l .d
   pub capacity-is : o .number ≡ 0 → o .capacity ≡ settingsOf l .C
   pub ranged : o .number ≡ 0 → Ranged (settingsOf l)
-  pub few : o .number ≡ 0 → settingsOf l .C ≤ most-points
+  pub few : o .number ≡ 0 → settingsOf l .C ≤ most-log-capacity
 
 -- a log that the program takes, and settings that it has memory for
 pub record Taken (l : List ℕ) : Type 0 where
   pub short : length l ≤ most-bytes
   pub ranged : Ranged (settingsOf l)
-  pub few : settingsOf l .C ≤ most-points
+  pub few : settingsOf l .C ≤ most-log-capacity
 
 -- such a log, and room for what is printed where it is loaded into the memory of t
 pub record LentFor (l : List ℕ) (t : Table) (size : ℕ) : Type 0 where

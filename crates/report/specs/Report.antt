@@ -21,8 +21,8 @@ use Rattle.text.specs.Text.{line}
 abbrev pub most-bytes : ℕ
 most-bytes = 16384
 
-abbrev pub most-points : ℕ
-most-points = 512
+abbrev pub most-log-capacity : ℕ
+most-log-capacity = 512
 
 -- "Each line starts with its fixed word in capital bytes": HEAD, POINT, ANSWER and REFUSED
 abbrev pub head-word : List ℕ
@@ -82,7 +82,7 @@ loadedText l (suc x) o = refusedLine (suc x) (o .offset)
 -- "capacity once settings are read and pass 1 (16 at offset 0)"
 unfoldable pub settingsRefusal : List ℕ → ℕ
 settingsRefusal l = let c = settingsOf l in
-    orElse (numberOf (itemAt l 0)) (first ((ranged c, settings-out-of-range) ∷ (leb (c .C) most-points, program-limit) ∷ []))
+    orElse (numberOf (itemAt l 0)) (first ((ranged c, settings-out-of-range) ∷ (leb (c .C) most-log-capacity, program-limit) ∷ []))
 
 -- a log whose settings have the number x; the slices that it is loaded into have the lengths that its settings give
 abbrev pub settledText : ℕ → List ℕ → List ℕ

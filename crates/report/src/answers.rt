@@ -5,7 +5,7 @@ ghost use Rattle.reader.specs.Walk.{after-settings, walk};
 ghost use Rattle.text.specs.Text.{Written};
 ghost use Rattle.report.specs.Report.{answerLines, perQuery};
 ghost use Rattle.report.specs.Inner.{replyLine, replyText, ReplyRoom, RepliesRoom, AnswersRoom};
-use crate::MOST_POINTS;
+use crate::MOST_LOG_CAPACITY;
 use crate::lines::put_answer;
 use blur::blur;
 use filter::reply::reply_at;
@@ -90,8 +90,8 @@ pub fn put_answers(
         Written (now (out .entry)) at (answerLines (settings head) t (walk (now (log .entry)) after-settings)) r (now (out .exit)))
         ⌝ }
 {
-    let mut first = [0i64; 2 * MOST_POINTS];
-    let mut second = [0i64; 2 * MOST_POINTS];
+    let mut first = [0i64; 2 * MOST_LOG_CAPACITY];
+    let mut second = [0i64; 2 * MOST_LOG_CAPACITY];
     let numbers = 2 * head.capacity;
     blur(
         head,

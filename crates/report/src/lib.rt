@@ -1,83 +1,35 @@
 // The report: what dyemap prints for a log, rendered into a lent buffer. What is printed stands in
 // specs/; that a buffer of ROOM bytes suffices for every log, in proofs/.
-ghost use mathlib.Core.Path.{_≡_};
 ghost use lib.ListN.{length};
 ghost use Rattle.table.specs.Calls.{lent};
 ghost use Rattle.table.specs.Heads.{settings, table};
 ghost use Rattle.text.specs.Text.{Written};
 ghost use Rattle.log.specs.Loading.{load};
 ghost use Rattle.report.specs.Report.{Reports, tableText, loadedText, settledText};
-ghost use Rattle.report.specs.Inner.{TableRoom, Opens, LentFor, Settled};
+ghost use Rattle.report.specs.Inner.{TableRoom, LentFor, Settled};
 
 mod answers;
 mod lines;
+mod opening;
 mod points;
 
 use crate::answers::put_answers;
 use crate::lines::put_head;
 use crate::lines::put_refused;
+use crate::opening::opening_of;
 use crate::points::put_points;
 use lattice::limits::MOST_D;
 use lattice::refusals::PROGRAM_LIMIT;
-use lattice::refusals::SETTINGS_OUT_OF_RANGE;
 use log::load;
-use reader::items::Item;
-use reader::items::number_of;
-use reader::read_at;
 use table::Head;
-use table::settings::in_range;
 
 // The program refuses a longer log, and one of more points.
 pub const MOST_BYTES: usize = 16384;
 
-pub const MOST_POINTS: usize = 512;
+pub const MOST_LOG_CAPACITY: usize = 512;
 
 // A buffer of so many bytes suffices for the report of every log.
 pub const ROOM: usize = 200000;
-
-// What a log's settings ask for, or the number by which they are refused.
-struct Opening {
-    number: u8,
-    d: usize,
-    capacity: usize,
-}
-
-fn refused_opening(number: u8) -> Opening
-    ensures { λ r. ⌜ r ≡ record { number = number; d = 0; capacity = 0 } ⌝ }
-{
-    Opening {
-        number,
-        d: 0,
-        capacity: 0,
-    }
-}
-
-// The settings: 12, 13, 15, then 1, then 16 for a capacity that the program has no memory for.
-fn opening_of(log: &[u8]) -> Opening
-    ensures { λ r. ⌜ Opens (now (log .entry)) r ⌝ }
-{
-    let first = read_at(log, 0);
-    let item = first.item;
-    let Item::Settings {
-        d,
-        fineness,
-        capacity,
-    } = item
-    else {
-        return refused_opening(number_of(item));
-    };
-    if !in_range(d, fineness, capacity) {
-        return refused_opening(SETTINGS_OUT_OF_RANGE);
-    }
-    if MOST_POINTS < capacity {
-        return refused_opening(PROGRAM_LIMIT);
-    }
-    Opening {
-        number: 0,
-        d,
-        capacity,
-    }
-}
 
 // HEAD, the points, and the answers to the log's queries.
 fn put_table(
@@ -126,9 +78,9 @@ fn put_log(out: &mut [u8], log: &[u8], d: usize, capacity: usize) -> usize
     requires { ⌜ Settled (now log) d capacity (length (now out)) ⌝ }
     ensures { λ r. ⌜ Written (now (out .entry)) 0 (settledText 0 (now (log .entry))) r (now (out .exit)) ⌝ }
 {
-    let mut keys = [0i32; MOST_D * MOST_POINTS];
-    let mut sums = [0i64; 2 * MOST_POINTS];
-    let mut index = [0u16; 2 * MOST_POINTS];
+    let mut keys = [0i32; MOST_D * MOST_LOG_CAPACITY];
+    let mut sums = [0i64; 2 * MOST_LOG_CAPACITY];
+    let mut index = [0u16; 2 * MOST_LOG_CAPACITY];
     let kept = d * capacity;
     let places = 2 * capacity;
     put_loaded(

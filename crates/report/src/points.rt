@@ -4,7 +4,7 @@ ghost use Rattle.table.specs.Heads.{settings, table};
 ghost use Rattle.text.specs.Text.{Written};
 ghost use Rattle.report.specs.Report.{pointLines};
 ghost use Rattle.report.specs.Inner.{RowsRoom, PointsRoom};
-use crate::MOST_POINTS;
+use crate::MOST_LOG_CAPACITY;
 use crate::lines::put_point;
 use listing::list;
 use table::Head;
@@ -47,7 +47,7 @@ pub fn put_points(
         Written (now (out .entry)) at (pointLines (settings head) t) r (now (out .exit)))
         ⌝ }
 {
-    let mut order = [0u16; MOST_POINTS];
+    let mut order = [0u16; MOST_LOG_CAPACITY];
     let places = head.capacity;
     list(head, keys, sums, index, &mut order[0..places]);
     put_rows(out, at, head, keys, sums, index, &order)

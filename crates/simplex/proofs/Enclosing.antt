@@ -15,7 +15,7 @@ use Rattle.whole.proofs.Lists.{length-tab}
 use Rattle.lattice.specs.Weight.{W}
 use Rattle.lattice.specs.Points.{spanned, lastOf}
 use Rattle.simplex.specs.Slots.{Placed, slotWeights, slotCoords}
-use Rattle.simplex.specs.Inner.{Total, Parts, coordinate, Near, ResidualOf, CornerIs, Room}
+use Rattle.simplex.specs.Inner.{Total, Parts, coordinate, Near, SplitsOf, CornerIs, Room}
 use Rattle.simplex.proofs.Splits.{part-of, join-split}
 use Rattle.simplex.proofs.Peak.{peak-cong}
 use Rattle.simplex.proofs.Padding.{padded-cong}
@@ -49,7 +49,7 @@ module _ (d S : ℕ) (x : List ℤ) (Q : Placed d S x) where
   pub near-of : Near ((d + 1) * S) x (length x)
   near-of = record { total = total-of; few = omega (arith, Q .size, Q .d-most); near = λ i l. Q .near i (omega (arith, Q .size)) }
 
-  module _ {floors rests : List ℤ} (R : ResidualOf ((d + 1) * S) (length x) x floors rests) where
+  module _ {floors rests : List ℤ} (R : SplitsOf ((d + 1) * S) (length x) x floors rests) where
     floor-at : (i : ℕ) → i < d + 1 → at floors i ≡ floor (at x i) ((d + 1) * S)
     floor-at i l = R .floor-at i (omega (arith, Q .size))
 

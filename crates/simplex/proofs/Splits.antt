@@ -12,12 +12,12 @@ use Rattle.whole.specs.Floor.{floor, remainder}
 use Rattle.whole.specs.Lists.{at}
 use Rattle.whole.proofs.Parts.{zin, zout}
 use Rattle.whole.proofs.Linear.{on, difs, ints}
-use Rattle.whole.proofs.Readings.{zlin, W32}
+use Rattle.whole.proofs.Signed.{zlin, W32}
 use Rattle.whole.proofs.Size.{zabs, back32}
 use Rattle.whole.proofs.Lists.{place-more}
 use Rattle.whole.proofs.Floor.{div-rem, remainder-lt, floor-is, remainder-is, floor-p, floor-n}
 use Rattle.lattice.specs.Limits.{farthest}
-use Rattle.simplex.specs.Inner.{Total, SplitOf, joined, Part, Six, ResidualOf}
+use Rattle.simplex.specs.Inner.{Total, SplitOf, joined, Part, Six, SplitsOf}
 
 pub split-is : (w : ℕ) (z q r : ℤ) → z ≡ pos w *ℤ q +ℤ r → pos 0 ≤ℤ r → r <ℤ pos w → SplitOf w z q r
 split-is w z q (pos n) e l h = let k : n < w = omega (arith, zin) in record { floor-is = sym (floor-is z q w n k e); rest-is = ap pos (sym (remainder-is z q w n k e)) }
@@ -72,12 +72,12 @@ part-back p t = rw (floor-back p, rest-back p t) p
 pub split-cong : {w : ℕ} {a a′ b b′ c c′ d d′ q r : ℤ} → a ≡ a′ → b ≡ b′ → c ≡ c′ → d ≡ d′ → SplitOf w (joined w a b -ℤ joined w c d) q r → SplitOf w (joined w a′ b′ -ℤ joined w c′ d′) q r
 split-cong e f g h S = rw (← e, ← f, ← g, ← h) S
 
--- ---- the residual, filled from the front
-pub residual-none : (w : ℕ) (x : List ℤ) {floors rests : List ℤ} → Six floors rests → ResidualOf w 0 x floors rests
-residual-none w x h = record { six = h; floor-at = λ i l. absurd (omega arith); rest-at = λ i l. absurd (omega arith) }
+-- ---- the splits, filled from the front
+pub splits-none : (w : ℕ) (x : List ℤ) {floors rests : List ℤ} → Six floors rests → SplitsOf w 0 x floors rests
+splits-none w x h = record { six = h; floor-at = λ i l. absurd (omega arith); rest-at = λ i l. absurd (omega arith) }
 
-pub residual-more : (w i : ℕ) (x : List ℤ) {floors rests : List ℤ} {q r : ℤ} → i < 6 → ResidualOf w i x floors rests → q ≡ floor (at x i) w → r ≡ pos (remainder (at x i) w) → ResidualOf w (i + 1) x (set floors i q) (set rests i r)
-residual-more w i x {floors} {rests} {q} {r} h R e f = record {
+pub splits-more : (w i : ℕ) (x : List ℤ) {floors rests : List ℤ} {q r : ℤ} → i < 6 → SplitsOf w i x floors rests → q ≡ floor (at x i) w → r ≡ pos (remainder (at x i) w) → SplitsOf w (i + 1) x (set floors i q) (set rests i r)
+splits-more w i x {floors} {rests} {q} {r} h R e f = record {
   six = record { floors-six = length-set floors i q ∙ R .six .floors-six; rests-six = length-set rests i r ∙ R .six .rests-six };
   floor-at = place-more (λ t. floor (at x t) w) floors (pos 0) i q (omega (arith, R .six .floors-six)) e (R .floor-at);
   rest-at = place-more (λ t. pos (remainder (at x t) w)) rests (pos 0) i r (omega (arith, R .six .rests-six)) f (R .rest-at);

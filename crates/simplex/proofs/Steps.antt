@@ -13,7 +13,7 @@ use Rattle.whole.specs.Floor.{floor, remainder}
 use Rattle.whole.specs.Sum.{sum}
 use Rattle.whole.specs.Lists.{at}
 use Rattle.whole.proofs.Parts.{zin, zout}
-use Rattle.whole.proofs.Readings.{zlin}
+use Rattle.whole.proofs.Signed.{zlin}
 use Rattle.whole.proofs.Ring.{le-or-lt}
 use Rattle.whole.proofs.Size.{zabs}
 use Rattle.whole.proofs.Lists.{place-more}

@@ -75,7 +75,7 @@ pub record Near (w : ℕ) (x : List ℤ) (n : ℕ) : Type 0 where
   pub near : (i : ℕ) → i < n → Abs≤ (at x i) farthest
 
 -- two such lists with the splits of the first n coordinates
-pub record ResidualOf (w n : ℕ) (x floors rests : List ℤ) : Type 0 where
+pub record SplitsOf (w n : ℕ) (x floors rests : List ℤ) : Type 0 where
   pub six : Six floors rests
   pub floor-at : (i : ℕ) → i < n → at floors i ≡ floor (at x i) w
   pub rest-at : (i : ℕ) → i < n → at rests i ≡ pos (remainder (at x i) w)

@@ -1,4 +1,4 @@
-// The corner of a place j: the lattice point of z[i] = floor((x[i] - x[j]) / W), from the residual.
+// The corner of a place j: the lattice point of z[i] = floor((x[i] - x[j]) / W), from the splits.
 ghost use mathlib.Core.Path.{_≡_};
 ghost use Prim.Native.Nat.{_<_, max};
 ghost use mathlib.Core.Bool.{cond};
@@ -7,7 +7,7 @@ ghost use lib.IntN.{pos, _-ℤ_, _*ℤ_};
 ghost use lib.ListN.{length};
 ghost use Rattle.whole.specs.Lists.{at};
 ghost use Rattle.simplex.specs.Inner.{Parts, coordinate, StepsFrom, Span, CornerFrom};
-use crate::residual::difference;
+use crate::split::difference;
 
 // The sum of the floors of the differences from one place, and the greatest of the remainders.
 struct Steps {

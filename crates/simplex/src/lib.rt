@@ -6,11 +6,11 @@ ghost use Rattle.simplex.specs.Inner.{Room, Span, pointOf};
 ghost use Rattle.simplex.specs.Slots.{Placed, Encloses};
 
 mod corner;
-mod residual;
+mod split;
 
 use crate::corner::corner_of;
 use crate::corner::point_at;
-use crate::residual::put_residual;
+use crate::split::put_splits;
 
 // Slot k is the point that leaves remainder k: its weight, 0 where there is none, and its
 // coordinates from 6 * k on. What a slot does not use is 0.
@@ -42,7 +42,7 @@ pub fn enclose(x: &[i32], d: usize, fineness: u32) -> Simplex
     let w = (n as u32) * fineness;
     let mut floors = [0i32; 6];
     let mut rests = [0i32; 6];
-    put_residual(x, w, &mut floors, &mut rests);
+    put_splits(x, w, &mut floors, &mut rests);
     let mut z = [0i32; 6];
     let mut simplex = Simplex {
         weights: [0u32; 6],

@@ -10,9 +10,8 @@ use Rattle.lattice.specs.Refusals.{first, settings-out-of-range, other-length, 
 use Rattle.lattice.specs.Weight.{W}
 use Rattle.index.specs.Indexed.{sparse, finding}
 use Rattle.table.specs.Table.{Settings, Table, key, entry}
-use Rattle.table.specs.Sound.{sound, indexed}
+use Rattle.table.specs.Sound.{sound, indexed, Ranged, Shape}
 use Rattle.table.specs.Calls.{ranged, fits, callRefusal}
-use Rattle.table.specs.Inner.{Ranged, Shape}
 use Rattle.soundness.specs.Inner.{goodRows, Rows}
 
 module _ (c : Settings) (t : Table) where

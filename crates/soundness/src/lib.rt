@@ -1,10 +1,9 @@
 // Whether a table is sound, on lent memory that may hold anything: nothing wraps and nothing is read
 // out of range. Refusals 1, 2 and 3 of a call, which every call on a table makes first.
 ghost use mathlib.Core.Path.{_≡_};
-ghost use Rattle.table.specs.Sound.{sound};
+ghost use Rattle.table.specs.Sound.{sound, Ranged, Shape};
 ghost use Rattle.table.specs.Calls.{callRefusal};
 ghost use Rattle.table.specs.Heads.{settings, table};
-ghost use Rattle.table.specs.Inner.{Ranged, Shape};
 
 mod places;
 mod points;

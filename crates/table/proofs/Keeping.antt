@@ -21,12 +21,11 @@ use Rattle.lattice.specs.Weight.{W}
 use Rattle.index.specs.Indexed.{count, used}
 use Rattle.index.proofs.Count.{count-cong}
 use Rattle.index.proofs.Finding.{keys-apart}
-use Rattle.table.specs.Table.{Settings, Table, Row, key, row, rows, entry}
-use Rattle.table.specs.Sound.{sound, Good}
+use Rattle.table.specs.Table.{Settings, Table, Row, key, row, rows, entry, massOf}
+use Rattle.table.specs.Sound.{sound, Good, Ranged, Fine}
 use Rattle.table.specs.Pour.{pour, news, accept}
 use Rattle.table.specs.Reading.{Reading, readingAt, parsed, shares, refusal, entered}
 use Rattle.table.specs.Calls.{ranged, fits, fresh, mergeRefusal, merged, callRefusal}
-use Rattle.table.specs.Inner.{Ranged, massOf, Fine}
 use Rattle.table.proofs.Lists.{all-tab, each-tab}
 use Rattle.table.proofs.Rows.{Apart, Additive}
 use Rattle.table.proofs.Soundness.{to-ranged, to-shape, to-sound, fine-kept, masses-over, total-most}
@@ -103,13 +102,13 @@ reading-acceptable c t r F A =
       total = shares-mass (c .d) (c .S) (F .ranged .S-least) r ∙ ap pos one;
     }
 
-pub entered-adds : (c : Settings) (t : Table) (r : Reading) → length (r .place) ≡ suc (c .d) → Fine c t → refusal c t r ≡ 0 → Adds c t (entered c t r) 1 (over (shares (c .d) (c .S) r))
+pub entered-adds : (c : Settings) (t : Table) (r : Reading) → length (r .position) ≡ suc (c .d) → Fine c t → refusal c t r ≡ 0 → Adds c t (entered c t r) 1 (over (shares (c .d) (c .S) r))
 entered-adds c t r size F e = accept-adds c t (shares (c .d) (c .S) r) 1 (reading-acceptable c t r F (accepted c t r size e))
 
 -- the readings of a list have d + 1 coordinates
-pub parsed-size : (d : ℕ) (l : List ℤ) → All (λ r. length (r .place) ≡ suc d) (parsed d l)
+pub parsed-size : (d : ℕ) (l : List ℤ) → All (λ r. length (r .position) ≡ suc d) (parsed d l)
 unfolding parsed
-parsed-size d l = all-tab (λ r. length (r .place) ≡ suc d) (length l / (d + 2)) (readingAt d l) (λ j h. length-tab (suc d) (λ i. at l ((d + 2) * j + i)))
+parsed-size d l = all-tab (λ r. length (r .position) ≡ suc d) (length l / (d + 2)) (readingAt d l) (λ j h. length-tab (suc d) (λ i. at l ((d + 2) * j + i)))
 
 -- ---- a call that is not refused as a whole
 pub record Called (c : Settings) (t : Table) (more : Bool) : Type 0 where

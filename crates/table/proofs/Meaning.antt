@@ -15,8 +15,9 @@ use Rattle.whole.proofs.Sum.{pick, none, one-hit}
 use Rattle.index.specs.Keys.{same}
 use Rattle.index.proofs.Equality.{same-eq, eq-same}
 use Rattle.index.proofs.Finding.{keys-apart}
-use Rattle.table.specs.Table.{Settings, Table, Row, key, mass, value, row, rows, entry, found, pairAt, held}
-use Rattle.table.specs.Inner.{Kept, massOf, Fine}
+use Rattle.table.specs.Table.{Settings, Table, Row, key, mass, value, row, rows, entry, found, pairAt, held, massOf}
+use Rattle.table.specs.Sound.{Fine}
+use Rattle.table.specs.Inner.{Kept}
 use Rattle.table.specs.Theorems.{plus}
 use Rattle.table.proofs.Lists.{over-tab}
 use Rattle.table.proofs.Rows.{join, valueOf, Additive, gives, given, pair-path}

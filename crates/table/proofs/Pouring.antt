@@ -13,10 +13,10 @@ use Rattle.whole.specs.Sum.{over}
 use Rattle.whole.proofs.Linear.{on, difs, ints}
 use Rattle.whole.proofs.Sum.{over-append}
 use Rattle.lattice.specs.Limits.{most-W, most-readings}
-use Rattle.table.specs.Table.{Settings, Table, Row, rows, found}
-use Rattle.table.specs.Sound.{Good}
+use Rattle.table.specs.Table.{Settings, Table, Row, rows, found, massOf}
+use Rattle.table.specs.Sound.{Good, Ranged}
 use Rattle.table.specs.Pour.{append, add, pour, news}
-use Rattle.table.specs.Inner.{Ranged, Kept, Addable, massOf}
+use Rattle.table.specs.Inner.{Kept, Addable}
 use Rattle.table.proofs.Lists.{all-before, all-after, each-before}
 use Rattle.table.proofs.Rows.{Apart, Additive}
 use Rattle.table.proofs.Adding.{add-kept, add-n, add-m, add-over, add-news}

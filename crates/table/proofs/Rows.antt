@@ -6,8 +6,7 @@ use lib.IntN.{ℤ, _+ℤ_}
 use Rattle.whole.specs.Sum.{over}
 use Rattle.whole.proofs.Sum.{pick}
 use Rattle.index.specs.Keys.{same}
-use Rattle.table.specs.Table.{Row}
-use Rattle.table.specs.Inner.{massOf}
+use Rattle.table.specs.Table.{Row, massOf}
 
 pub row-eq : (a b : Row) → a .key ≡ b .key → a .mass ≡ b .mass → a .value ≡ b .value → a ≡ b
 row-eq a b p q s = λ i. record { key = p i; mass = q i; value = s i }

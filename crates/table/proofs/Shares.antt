@@ -28,11 +28,11 @@ use Rattle.lattice.proofs.Reach.{reach}
 use Rattle.lattice.proofs.Judging.{judged-none, judged-right}
 use Rattle.index.specs.Keys.{same}
 use Rattle.index.proofs.Equality.{same-eq, eq-same}
-use Rattle.table.specs.Table.{Settings, Table, Row}
-use Rattle.table.specs.Sound.{Good}
+use Rattle.table.specs.Table.{Settings, Table, Row, massOf}
+use Rattle.table.specs.Sound.{Good, Ranged}
 use Rattle.table.specs.Pour.{news}
 use Rattle.table.specs.Reading.{Reading, share, shares, refusal}
-use Rattle.table.specs.Inner.{Ranged, massOf, weighedRow}
+use Rattle.table.specs.Inner.{weighedRow}
 use Rattle.table.proofs.Lists.{all-list, each-list, all-map, each-map, over-map}
 use Rattle.table.proofs.Rows.{Apart, valueOf, gives, given, pair-path}
 use Rattle.table.proofs.Good.{key-size, whole-key, key-tells}
@@ -40,16 +40,16 @@ use Rattle.table.proofs.Refusals.{first-zero}
 
 -- ---- an accepted reading
 pub record Accepted (c : Settings) (t : Table) (r : Reading) : Type 0 where
-  pub position : Position (c .d) (r .place)
+  pub position : Position (c .d) (r .position)
   pub fair : Abs≤ (r .value) most-value
   pub few : t .n + 1 ≤ most-readings
   pub room : t .m + news c t (shares (c .d) (c .S) r) ≤ c .C
 
-pub accepted : (c : Settings) (t : Table) (r : Reading) → length (r .place) ≡ suc (c .d) → refusal c t r ≡ 0 → Accepted c t r
+pub accepted : (c : Settings) (t : Table) (r : Reading) → length (r .position) ≡ suc (c .d) → refusal c t r ≡ 0 → Accepted c t r
 unfolding refusal
 accepted c t r size e =
-    let a = allNear (r .place) in
-    let b = sumsToZero (r .place) in
+    let a = allNear (r .position) in
+    let b = sumsToZero (r .position) in
     let v = leb (natAbs (r .value)) most-value in
     let f = leb (t .n + 1) most-readings in
     let g = leb (t .m + news c t (shares (c .d) (c .S) r)) (c .C) in
@@ -59,7 +59,7 @@ accepted c t r size e =
     let (tf, e4) = first-zero f 6 ((g, 8) ∷ []) e3 in
     let (tg, e5) = first-zero g 7 [] e4 in
     record {
-      position = judged-right (c .d) (r .place) size .none .0 (judged-none (r .place) (T-true a ta) (T-true b tb));
+      position = judged-right (c .d) (r .position) size .none .0 (judged-none (r .position) (T-true a ta) (T-true b tb));
       fair = abs-of (r .value) most-value (leb→le (natAbs (r .value)) most-value tv);
       few = leb→le (t .n + 1) most-readings tf;
       room = leb→le (t .m + news c t (shares (c .d) (c .S) r)) (c .C) tg;
@@ -75,14 +75,14 @@ fair-high w = on _ λ a b. simp difs (λ h. let l : w * a ≤ w * (1000000 + b) 
 -- ---- the rows of a reading
 module _ (d S : ℕ) (fine : 0 < S) (r : Reading) where
   ps : List (List ℤ)
-  ps = points d S (r .place)
+  ps = points d S (r .position)
 
   abbrev weigh : List ℤ → ℕ
-  weigh y = weight d S (at (r .place)) (at y)
+  weigh y = weight d S (at (r .position)) (at y)
 
-  the : Points d S (r .place) ps
+  the : Points d S (r .position) ps
   unfolding ps
-  the = exactly-these d S fine (r .place)
+  the = exactly-these d S fine (r .position)
 
   pub shares-apart : Each Apart (shares d S r)
   unfolding shares ps
@@ -93,7 +93,7 @@ module _ (d S : ℕ) (fine : 0 < S) (r : Reading) where
 
   pub shares-mass : over (shares d S r) massOf ≡ pos (W d S)
   unfolding shares
-  shares-mass = over-map (share d S r) (points d S (r .place)) massOf ∙ all-sum-to-W d S fine (r .place)
+  shares-mass = over-map (share d S r) (points d S (r .position)) massOf ∙ all-sum-to-W d S fine (r .position)
 
   -- ---- what it gives to a lattice point: its weight, and its weight times the value
   spell : (f : Row → ℤ) → over (shares d S r) f ≡ sum (length ps) (λ m. f (share d S r (getD ps m [])))
@@ -101,7 +101,7 @@ module _ (d S : ℕ) (fine : 0 < S) (r : Reading) where
   spell f = over-map (share d S r) ps f ∙ sym (sum-list ps [] (λ y. f (share d S r y)))
 
   once : (i j : ℕ) → i < length ps → j < length ps → getD ps i [] ≡ getD ps j [] → i ≡ j
-  once i j h l e = remainder-once d S fine (r .place) ps the i j h l (ap (λ (z : List ℤ). remainderOf d (at z)) e)
+  once i j h l e = remainder-once d S fine (r .position) ps the i j h l (ap (λ (z : List ℤ). remainderOf d (at z)) e)
 
   -- one of its points has the key, or none has
   over-at : (f : Row → ℤ) → ((y : List ℤ) → weigh y ≡ 0 → f (share d S r y) ≡ pos 0)
@@ -124,39 +124,39 @@ module _ (d S : ℕ) (fine : 0 < S) (r : Reading) where
           (λ j h s. once j m h l (tells j h s ∙ sym e))
           ∙ ap (λ (z : List ℤ). f (share d S r z)) e
 
-  pub share-given : (y : List ℤ) → Point d y → given (shares d S r) (take d y) ≡ (let w = pos (weight d S (at (r .place)) (at y)) in (w, w *ℤ r .value))
+  pub share-given : (y : List ℤ) → Point d y → given (shares d S r) (take d y) ≡ (let w = pos (weight d S (at (r .position)) (at y)) in (w, w *ℤ r .value))
   share-given y Y = pair-path (over (shares d S r) (gives massOf (take d y))) (over (shares d S r) (gives valueOf (take d y)))
       (massOf (share d S r y)) (valueOf (share d S r y))
       (over-at massOf (λ y e. ap pos e) y Y) (over-at valueOf (λ y e. ap (λ (w : ℕ). pos w *ℤ r .value) e ∙ zero-*ℤ (r .value)) y Y)
 
 -- ---- they are good
-module _ (c : Settings) (G : Ranged c) (r : Reading) (X : Position (c .d) (r .place)) (fair : Abs≤ (r .value) most-value) where
-  share-good : (y : List ℤ) → Point (c .d) y → 0 < weight (c .d) (c .S) (at (r .place)) (at y) → Good (c .d) (share (c .d) (c .S) r y)
+module _ (c : Settings) (G : Ranged c) (r : Reading) (X : Position (c .d) (r .position)) (fair : Abs≤ (r .value) most-value) where
+  share-good : (y : List ℤ) → Point (c .d) y → 0 < weight (c .d) (c .S) (at (r .position)) (at y) → Good (c .d) (share (c .d) (c .S) r y)
   share-good y Y w = record {
     size = key-size (c .d) y Y;
     point = rw (whole-key (c .d) y Y) Y;
-    near = λ j l. rw (whole-key (c .d) y Y) (reach (c .d) (c .S) (G .d-most) (G .S-least) (r .place) y X Y w j l);
+    near = λ j l. rw (whole-key (c .d) y Y) (reach (c .d) (c .S) (G .d-most) (G .S-least) (r .position) y X Y w j l);
     some = le-out (pos 1) (pos weigh) (omega arith);
     low = fair-low weigh (r .value) (abs-lo fair);
     high = fair-high weigh (r .value) (abs-hi fair);
   }
     where
       weigh : ℕ
-      weigh = weight (c .d) (c .S) (at (r .place)) (at y)
+      weigh = weight (c .d) (c .S) (at (r .position)) (at y)
 
   pub shares-good : All (Good (c .d)) (shares (c .d) (c .S) r)
   unfolding shares
   shares-good =
-      let ps = points (c .d) (c .S) (r .place) in
-      let the = exactly-these (c .d) (c .S) (G .S-least) (r .place) in
+      let ps = points (c .d) (c .S) (r .position) in
+      let the = exactly-these (c .d) (c .S) (G .S-least) (r .position) in
       all-map (Good (c .d)) (share (c .d) (c .S) r) ps
       (all-list (λ y. Good (c .d) (share (c .d) (c .S) r y)) ps [] (λ m l. share-good (getD ps m []) (the .point m l) (the .heavy m l)))
 
 -- ---- the rows as they are made of the weighed points
-pub shares-weighed : (d S : ℕ) (r : Reading) → shares d S r ≡ map (weighedRow d (r .value)) (weighed d S (r .place))
+pub shares-weighed : (d S : ℕ) (r : Reading) → shares d S r ≡ map (weighedRow d (r .value)) (weighed d S (r .position))
 unfolding shares weighed
-shares-weighed d S r = go (points d S (r .place))
+shares-weighed d S r = go (points d S (r .position))
   where
-    go : (l : List (List ℤ)) → map (share d S r) l ≡ map (weighedRow d (r .value)) (map (λ y. (y, weight d S (at (r .place)) (at y))) l)
+    go : (l : List (List ℤ)) → map (share d S r) l ≡ map (weighedRow d (r .value)) (map (λ y. (y, weight d S (at (r .position)) (at y))) l)
     go [] = refl
     go (y ∷ l) = ap (λ (t : List Row). share d S r y ∷ t) (go l)

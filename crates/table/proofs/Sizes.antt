@@ -7,9 +7,9 @@ use Rattle.whole.specs.Sum.{over}
 use Rattle.whole.proofs.Linear.{on, difs, ints}
 use Rattle.whole.proofs.Size.{abs-pair}
 use Rattle.lattice.specs.Limits.{most-value, most-W, most-readings}
-use Rattle.table.specs.Table.{Settings, Table, Row, mass, value, row, rows}
+use Rattle.table.specs.Table.{Settings, Table, Row, mass, value, row, rows, massOf}
 use Rattle.table.specs.Sound.{Good}
-use Rattle.table.specs.Inner.{Addable, massOf}
+use Rattle.table.specs.Inner.{Addable}
 use Rattle.table.proofs.Lists.{all-tab}
 use Rattle.table.proofs.Soundness.{mass-over}
 use Rattle.table.proofs.Pouring.{masses-low}

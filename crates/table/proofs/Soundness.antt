@@ -18,11 +18,11 @@ use Rattle.index.specs.Keys.{eqZ}
 use Rattle.index.specs.Indexed.{sparse, finding}
 use Rattle.index.proofs.Equality.{eq-eqb, eqZ-eq, eqZ-refl, keyAt-length}
 use Rattle.index.proofs.Finding.{to-sparse, of-sparse, to-indexed, of-indexed}
-use Rattle.table.specs.Table.{Settings, Table, key, mass, row, rows, entry}
-use Rattle.table.specs.Sound.{good, indexed, sound, Sound}
+use Rattle.table.specs.Table.{Settings, Table, key, mass, row, rows, entry, massOf}
+use Rattle.table.specs.Sound.{good, indexed, sound, Sound, Ranged, Shape, Fine}
 use Rattle.table.specs.Calls.{ranged, fits}
 use Rattle.table.specs.Theorems.{Usable}
-use Rattle.table.specs.Inner.{Ranged, Shape, Kept, massOf, Fine}
+use Rattle.table.specs.Inner.{Kept}
 use Rattle.table.proofs.Lists.{over-tab}
 use Rattle.table.proofs.Good.{to-good, of-good}
 

@@ -14,7 +14,7 @@ use Rattle.index.specs.Keys.{keyAt}
 use Rattle.index.proofs.Equality.{stretch-fits}
 use Rattle.table.specs.Table.{Settings, Table, Row, key, mass, value, row, rows, entry}
 use Rattle.table.specs.Pour.{setPair, append, raise}
-use Rattle.table.specs.Inner.{Shape}
+use Rattle.table.specs.Sound.{Shape}
 use Rattle.table.proofs.Lists.{tab-snoc, tab-set, tab-self}
 use Rattle.table.proofs.Rows.{row-eq, join}
 

@@ -5,6 +5,7 @@ use Prim.Native.Nat.{ℕ}
 use lib.IntN.{ℤ}
 use Rattle.table.specs.declared.Head.{Head}
 use Rattle.table.specs.Table.{Settings, Table}
+use Rattle.table.specs.Calls.{Outcome}
 
 -- "(d, S, C, number of readings n, number of points m)": the first three
 abbrev pub settings : Head → Settings
@@ -36,3 +37,8 @@ pub record Answers (c : Settings) (x : ℕ) (t : Table) (number : ℕ) (head : H
   pub keys-are : keys ≡ t .keys
   pub sums-are : sums ≡ t .sums
   pub index-are : index ≡ t .index
+
+-- What enter hands back and leaves: "answers how many it took, the number (0 if all), and the new head"
+pub record Enters (c : Settings) (o : Outcome) (taken number : ℕ) (head : Head) (keys sums : List ℤ) (index : List ℕ) : Type 0 where
+  pub taken-is : taken ≡ o .taken
+  pub answers : Answers c (o .number) (o .table) number head keys sums index

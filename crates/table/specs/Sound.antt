@@ -1,4 +1,4 @@
--- Soundness: document 01's sentence, as a test that computes and as the facts that it stands for.
+-- Soundness: document 01's sentence, as a test that computes and as the facts that it stands for. And settings in range and slices of their lengths, as facts.
 use mathlib.Core.Path.{_≡_}
 use mathlib.Core.Bool.{Bool, _&&_}
 use mathlib.Core.List.{List}
@@ -11,7 +11,7 @@ use Rattle.whole.specs.Size.{Abs≤}
 use Rattle.whole.specs.Floor.{remainder}
 use Rattle.whole.specs.Sum.{sum, all}
 use Rattle.whole.specs.Lists.{at}
-use Rattle.lattice.specs.Limits.{farthest-point, most-value, most-readings}
+use Rattle.lattice.specs.Limits.{most-d, most-S, most-C, farthest-point, most-value, most-readings}
 use Rattle.lattice.specs.Lattice.{Point, remainderOf}
 use Rattle.lattice.specs.Weight.{W}
 use Rattle.index.specs.Keys.{eqZ}
@@ -66,3 +66,24 @@ pub record Sound (c : Settings) (t : Table) : Type 0 where
   pub few : t .n ≤ most-readings
   pub good : (i : ℕ) → i < t .m → Good (c .d) (row c t i)
   pub masses : sum (t .m) (mass t) ≡ pos (W (c .d) (c .S) * t .n)
+
+-- the settings are in range
+pub record Ranged (c : Settings) : Type 0 where
+  pub d-least : 1 ≤ c .d
+  pub d-most : c .d ≤ most-d
+  pub S-least : 1 ≤ c .S
+  pub S-most : c .S ≤ most-S
+  pub C-least : 1 ≤ c .C
+  pub C-most : c .C ≤ most-C
+
+-- the lent slices have their lengths
+pub record Shape (c : Settings) (t : Table) : Type 0 where
+  pub keys : length (t .keys) ≡ c .d * c .C
+  pub sums : length (t .sums) ≡ 2 * c .C
+  pub index : length (t .index) ≡ 2 * c .C
+
+-- Settings in range, lengths, and soundness: a table that a call which is not refused as a whole finds and leaves.
+pub record Fine (c : Settings) (t : Table) : Type 0 where
+  pub ranged : Ranged c
+  pub shape : Shape c t
+  pub sound : Sound c t

@@ -48,6 +48,10 @@ row c t i = record { key = key c t i; mass = mass t i; value = value t i }
 unfoldable pub rows : Settings → Table → List Row
 rows c t = tab (t .m) (row c t)
 
+-- the mass of a row, to sum over rows
+abbrev pub massOf : Row → ℤ
+massOf r = r .mass
+
 -- "Only the first d coordinates are kept; the last is minus their sum."
 unfoldable pub whole : List ℤ → List ℤ
 whole k = k ++ (negℤ (over k (λ z. z)) ∷ [])

@@ -37,7 +37,7 @@ FreshSound = (c : Settings) → T (ranged c) → Usable c (fresh c)
 
 -- each accepted reading, of d+1 coordinates as those of a list are, keeps it,
 abbrev pub EnterKeeps : Type 0
-EnterKeeps = (c : Settings) (t : Table) (r : Reading) → length (r .place) ≡ suc (c .d) → Usable c t → refusal c t r ≡ 0 → Usable c (entered c t r)
+EnterKeeps = (c : Settings) (t : Table) (r : Reading) → length (r .position) ≡ suc (c .d) → Usable c t → refusal c t r ≡ 0 → Usable c (entered c t r)
 
 -- and so does a whole call of enter, which counts the readings that it took,
 abbrev pub EnterLeaves : Type 0
@@ -58,9 +58,9 @@ FreshHolds = (c : Settings) → T (ranged c) → (k : List ℤ) → held c (fres
 
 -- "To enter a reading (x, v)": at every lattice point the map after is the map before plus (weight, weight·v)
 abbrev pub EnterAdds : Type 0
-EnterAdds = (c : Settings) (t : Table) (r : Reading) → length (r .place) ≡ suc (c .d) → Usable c t → refusal c t r ≡ 0 → (y : List ℤ) → Point (c .d) y
+EnterAdds = (c : Settings) (t : Table) (r : Reading) → length (r .position) ≡ suc (c .d) → Usable c t → refusal c t r ≡ 0 → (y : List ℤ) → Point (c .d) y
     → held c (entered c t r) (take (c .d) y)
-    ≡ plus (held c t (take (c .d) y)) (let w = pos (weight (c .d) (c .S) (at (r .place)) (at y)) in (w, w *ℤ r .value))
+    ≡ plus (held c t (take (c .d) y)) (let w = pos (weight (c .d) (c .S) (at (r .position)) (at y)) in (w, w *ℤ r .value))
 
 -- after a merge it is the sum of the two
 abbrev pub MergeAdds : Type 0

@@ -48,8 +48,8 @@ fullTable = let t = (afterLog 2 bothReadings) .table in record { n = most-readin
 
 -- "for each reading 4, 5, 6, 7, 8": where a reading would be one too many, and its points too, 7 is told.
 pub record OrderCases : Type 0 where
-  pub seven-before-eight : refusal (ofLog 2) fullTable (record { place = pos 100 ∷ negsuc 99 ∷ []; value = pos 0 }) ≡ 7
-  pub six-before-seven : refusal (ofLog 2) fullTable (record { place = pos 100 ∷ negsuc 99 ∷ []; value = pos 1000001 }) ≡ 6
+  pub seven-before-eight : refusal (ofLog 2) fullTable (record { position = pos 100 ∷ negsuc 99 ∷ []; value = pos 0 }) ≡ 7
+  pub six-before-seven : refusal (ofLog 2) fullTable (record { position = pos 100 ∷ negsuc 99 ∷ []; value = pos 1000001 }) ≡ 6
 
 -- "(1000000,-1000000) is taken; (1000001,0) is 4, not 5; (5,-4) is 5."
 pub record ReadingCases : Type 0 where

@@ -1,4 +1,4 @@
-pub mod Agreeing
+pub mod Worked
 pub mod Lines
 pub mod Decimal
 pub mod Numbers

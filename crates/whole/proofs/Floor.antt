@@ -11,7 +11,7 @@ use Rattle.whole.specs.Size.{P, N, Abs≤}
 use Rattle.whole.specs.Floor.{floor, remainder, DividedBy, DividedOnce, RemainderCases}
 use Rattle.whole.proofs.Parts.{N-neg, le-in, lt-in, zin, zout}
 use Rattle.whole.proofs.Linear.{on, difs, ints}
-use Rattle.whole.proofs.Readings.{zed, zlt, zeq, ole, oeq, sizes}
+use Rattle.whole.proofs.Signed.{zed, zlt, zeq, ole, oeq, sizes}
 use Rattle.whole.proofs.Ring.{le-or-lt, nonneg-N, negative-P}
 
 -- document 01's own numbers, computed

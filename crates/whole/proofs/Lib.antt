@@ -1,6 +1,6 @@
 pub mod Parts
 pub mod Linear
-pub mod Readings
+pub mod Signed
 pub mod Ring
 pub mod Size
 pub mod Floor

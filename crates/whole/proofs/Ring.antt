@@ -11,7 +11,7 @@ use lib.Dec.{T}
 use Rattle.whole.specs.Size.{P, N}
 use Rattle.whole.proofs.Parts.{le-in, lt-in, le-out, lt-out, zin, zout}
 use Rattle.whole.proofs.Linear.{on, difs, ints, dif-le}
-use Rattle.whole.proofs.Readings.{zed, zle, zeq}
+use Rattle.whole.proofs.Signed.{zed, zle, zeq}
 
 -- ---- the ring
 pub *-comm : (a b : ℤ) → a *ℤ b ≡ b *ℤ a

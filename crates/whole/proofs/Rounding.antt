@@ -9,7 +9,7 @@ use lib.IntN.{ℤ, pos, negsuc, negℤ, natAbs, _+ℤ_, _-ℤ_, _*ℤ_}
 use lib.Signed.{_≤ℤ_, _<ℤ_, quotZ}
 use Rattle.whole.specs.Rounding.{Rounds, rounded, RoundedIs, RoundedOnce, RoundedBetween, RoundingCases}
 use Rattle.whole.proofs.Parts.{lt-in, zin}
-use Rattle.whole.proofs.Readings.{zed, zle, zlt, zeq, ole, olt}
+use Rattle.whole.proofs.Signed.{zed, zle, zlt, zeq, ole, olt}
 use Rattle.whole.proofs.Ring.{le-or-lt, le-antisymm}
 
 -- document 01's own numbers, computed

@@ -11,7 +11,7 @@ use mir.Val.{SFits}
 use mir.ValLaws.{toZ-ofZ}
 use Rattle.whole.specs.Size.{P, N, Abs≤}
 use Rattle.whole.proofs.Parts.{natAbs-is, P-neg, N-neg, le-in, eq-in, sfits-make, zout}
-use Rattle.whole.proofs.Readings.{zed, zle, ole, Rd, Holds, W32, W64}
+use Rattle.whole.proofs.Signed.{zed, zle, ole, Rd, Holds, W32, W64}
 
 pub abs-pair : {z : ℤ} {B : ℕ} → negℤ (pos B) ≤ℤ z → z ≤ℤ pos B → Abs≤ z B
 abs-pair {z} {B} h k = record { abs = go z (omega (arith, ole h (search zed depth 14) (omega arith))) (le-in z (pos B) k) }

@@ -16,7 +16,7 @@ use Rattle.whole.specs.Floor.{floor}
 use Rattle.whole.specs.Sum.{sum, over}
 use Rattle.whole.proofs.Parts.{add-is, eq-out, le-out}
 use Rattle.whole.proofs.Linear.{on, difs, ints}
-use Rattle.whole.proofs.Readings.{zlin}
+use Rattle.whole.proofs.Signed.{zlin}
 use Rattle.whole.proofs.Ring.{*-dist-l, add-mono}
 use Rattle.whole.proofs.Size.{zabs}
 use Rattle.whole.proofs.Floor.{floor-is, floor-next}

@@ -5,7 +5,7 @@ use std::error::Error;
 use std::fmt;
 
 use crate::calls;
-use crate::refusal::WRONG_LENGTH;
+use crate::refusal::OTHER_LENGTH;
 use crate::table::{memory, Table};
 use crate::{Place, Refusal};
 
@@ -36,7 +36,7 @@ impl Table {
     pub fn load(log: &[u8]) -> Result<Table, LoadRefusal> {
         // With no memory lent the call judges the settings alone: where they are good, it answers 2.
         let judged = calls::load(log, &mut [], &mut [], &mut []);
-        if judged.number != WRONG_LENGTH {
+        if judged.number != OTHER_LENGTH {
             return Err(LoadRefusal::new(judged.number, judged.offset, None));
         }
         // So the settings are the log's first five bytes: the kind, d, S, and C as two bytes.

@@ -5,7 +5,7 @@ use std::error::Error;
 use std::fmt;
 
 /// A lent slice of another length, or a list that isn't whole items.
-pub(crate) const WRONG_LENGTH: u8 = 2;
+pub(crate) const OTHER_LENGTH: u8 = 2;
 
 /// Document 01's words for the numbers 1 to 16, in that order.
 const WORDS: [&str; 16] = [

@@ -4,7 +4,7 @@
 use std::fmt;
 
 use crate::calls::{self, Head};
-use crate::refusal::WRONG_LENGTH;
+use crate::refusal::OTHER_LENGTH;
 use crate::{Place, Refusal};
 
 /// A table of readings: the lattice points with weight above 0 for them, each with its mass and value sum.
@@ -75,7 +75,7 @@ impl Table {
     pub fn fresh(d: usize, fineness: u32, capacity: usize) -> Result<Table, Refusal> {
         // With no memory lent the call judges the settings alone: where they are in range, it answers 2.
         let judged = calls::fresh(d, fineness, capacity, &mut [], &mut [], &mut []);
-        if judged.number != WRONG_LENGTH {
+        if judged.number != OTHER_LENGTH {
             return Err(Refusal::new(judged.number, Place::WholeCall));
         }
         let (mut keys, mut sums, mut index) = memory(d, capacity);
@@ -280,7 +280,7 @@ impl Table {
     /// Refuses with 2 what isn't one whole position. A list of several would pass for as many items.
     fn one_position(&self, position: &[i32]) -> Result<(), Refusal> {
         if position.len() != self.head.d + 1 {
-            return Err(Refusal::new(WRONG_LENGTH, Place::WholeCall));
+            return Err(Refusal::new(OTHER_LENGTH, Place::WholeCall));
         }
         Ok(())
     }

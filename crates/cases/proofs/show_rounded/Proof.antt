@@ -10,7 +10,7 @@ use mir.Val.{SFits}
 use Rattle.whole.specs.Size.{Within}
 use Rattle.whole.specs.Rounding.{rounded}
 use Rattle.whole.proofs.Parts.{zin, natAbs-is}
-use Rattle.whole.proofs.Readings.{zlin, zed, zle, zeq, zfits, zwithin, t≥, W32, W64}
+use Rattle.whole.proofs.Signed.{zlin, zed, zle, zeq, zfits, zwithin, t≥, W32, W64}
 use Rattle.whole.proofs.Size.{zabs}
 use Rattle.whole.proofs.Rounding.{rounded-between}
 use Rattle.cases.proofs.show_rounded.Statement.{statement}

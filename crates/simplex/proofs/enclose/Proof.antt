@@ -6,7 +6,7 @@ use mathlib.Core.Path.{_≡_, refl, ap, sym, _∙_}
 use Prim.Native.Nat.{suc, _+_, _≤_, _<_, _-_}
 use lib.ListN.{length}
 use lib.Dec.{lit<}
-use Rattle.whole.proofs.Readings.{W32}
+use Rattle.whole.proofs.Signed.{W32}
 use Rattle.whole.proofs.Size.{back32}
 use Rattle.simplex.specs.Slots.{slotWeights, slotCoords}
 use Rattle.simplex.specs.Inner.{Room}
@@ -30,38 +30,38 @@ cast-w c = search needs
 mul-w : tie.Need-mul-w Inv-loop μ-loop
 mul-w c = let n = near-of _ _ _ (c .pre) in record { fits = omega (arith, n .total .most) }
 
-put-residual-requires : tie.Need-put-residual-requires Inv-loop μ-loop
-put-residual-requires c κs = (near-of _ _ _ (c .before .before .pre), record { floors-six = refl; rests-six = refl })
+put-splits-requires : tie.Need-put-splits-requires Inv-loop μ-loop
+put-splits-requires c κs = (near-of _ _ _ (c .before .before .pre), record { floors-six = refl; rests-six = refl })
 
 loop-holds : tie.Need-loop-holds Inv-loop μ-loop
 loop-holds c = let a = c .before .before .before .args in (search needs, refl, no-weights (a .d) (a .fineness) (a .x .now), no-coords (a .d) (a .fineness) (a .x .now))
 
 slice-aggregate-corner-of : tie.Need-slice-aggregate-corner-of Inv-loop μ-loop
-slice-aggregate-corner-of c = sym (c .before .before .before .put-residual .ensures .six .floors-six)
+slice-aggregate-corner-of c = sym (c .before .before .before .put-splits .ensures .six .floors-six)
 
 slice-aggregate-corner-of-2 : tie.Need-slice-aggregate-corner-of-2 Inv-loop μ-loop
-slice-aggregate-corner-of-2 c = sym (c .before .before .before .before .put-residual .ensures .six .rests-six)
+slice-aggregate-corner-of-2 c = sym (c .before .before .before .before .put-splits .ensures .six .rests-six)
 
 corner-of-requires : tie.Need-corner-of-requires Inv-loop μ-loop
 corner-of-requires c κs =
     let l = c .before .before .before .before in
     let r = l .before in
-    (parts-of _ _ _ (r .before .before .before .pre) (r .put-residual .ensures), (search needs, l .loop .inv .1))
+    (parts-of _ _ _ (r .before .before .before .pre) (r .put-splits .ensures), (search needs, l .loop .inv .1))
 
--- the turn of place j, and the residual that it reads
+-- the turn of place j, and the splits that it reads
 abbrev turn : tie.After-corner-of Inv-loop μ-loop → tie.At-loop Inv-loop μ-loop
 turn c = c .before .before .before .before .before
 
-abbrev residual : tie.After-corner-of Inv-loop μ-loop → tie.After-put-residual Inv-loop μ-loop
-residual c = turn c .before
+abbrev splits : tie.After-corner-of Inv-loop μ-loop → tie.After-put-splits Inv-loop μ-loop
+splits c = turn c .before
 
 -- the slot of its corner is one of the six, and the slots are there
 room : (c : tie.After-corner-of Inv-loop μ-loop) → Room (turn c .loop .simplex .coords) (c .corner-of .result .slot)
 room c =
     let l = turn c in
-    let r = residual c in
+    let r = splits c in
     let p = r .before .before .before .pre in
-    room-of _ _ _ (l .loop .j) (p .S-least) (p .d-most) (omega arith) (corner-is _ _ _ p (r .put-residual .ensures) (l .loop .j) (search needs) (c .corner-of .ensures .corner)) (l .loop .inv .3)
+    room-of _ _ _ (l .loop .j) (p .S-least) (p .d-most) (omega arith) (corner-is _ _ _ p (r .put-splits .ensures) (l .loop .j) (search needs) (c .corner-of .ensures .corner)) (l .loop .inv .3)
 
 -- the sum of its floors, as the machine has it
 own : (c : tie.After-corner-of Inv-loop μ-loop) → W32 (c .corner-of .result .total) ≡ c .corner-of .result .total
@@ -89,11 +89,11 @@ loop-again : tie.Need-loop-again Inv-loop μ-loop
 loop-again c =
     let k = c .before .before .before .before in
     let l = turn k in
-    let r = residual k in
+    let r = splits k in
     let p = r .before .before .before .pre in
     let q : l .loop .j < suc (r .before .before .before .args .d) = omega arith in
     let e = sym (add-one (l .loop .j)) in
-    let here = corner-is _ _ _ p (r .put-residual .ensures) (l .loop .j) (search needs) (k .corner-of .ensures .corner) in (
+    let here = corner-is _ _ _ p (r .put-splits .ensures) (l .loop .j) (search needs) (k .corner-of .ensures .corner) in (
       search needs,
       k .corner-of .ensures .span .z-six,
       weights-turn _ _ _ (l .loop .j) (p .S-least) q here (p .d-most) (l .loop .inv .2) refl ∙ ap (slotWeights _ _ _) e,
@@ -115,7 +115,7 @@ enclose-spec =
     add-n
     cast-w
     mul-w
-    put-residual-requires
+    put-splits-requires
     loop-holds
     slice-aggregate-corner-of
     slice-aggregate-corner-of-2

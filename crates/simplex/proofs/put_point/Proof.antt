@@ -11,7 +11,7 @@ use mir.Val.{SFits, toZ}
 use mir.Facts.{toZ-ofZ}
 use Rattle.whole.specs.Lists.{at, splice}
 use Rattle.whole.proofs.Lists.{splice-none, splice-more, splice-all}
-use Rattle.whole.proofs.Readings.{W32}
+use Rattle.whole.proofs.Signed.{W32}
 use Rattle.whole.proofs.Size.{back32}
 use Rattle.simplex.specs.Inner.{padded, pointOf}
 use Rattle.simplex.proofs.Padding.{length-padded, padded-at}

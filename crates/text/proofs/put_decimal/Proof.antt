@@ -7,7 +7,7 @@ use lib.Signed.{_<ℤ_, _≤ℤ_}
 use lib.ListN.{length-set}
 use mir.Facts.{toZ-ofZ}
 use Rattle.whole.proofs.Parts.{zin}
-use Rattle.whole.proofs.Readings.{zlin, t≤, t>, W64}
+use Rattle.whole.proofs.Signed.{zlin, t≤, t>, W64}
 use Rattle.text.specs.Text.{digits, decimal, minus-sign}
 use Rattle.text.proofs.Lines.{written-cons, written-length}
 use Rattle.text.proofs.Decimal.{decimal-above, decimal-below}

@@ -6,7 +6,7 @@ use Prim.Native.Nat.{_-_, _<_}
 use lib.IntN.{ℤ, pos, negsuc, natAbs, _-ℤ_}
 use lib.Signed.{_<ℤ_, _≤ℤ_}
 use Rattle.whole.proofs.Parts.{zin, natAbs-is}
-use Rattle.whole.proofs.Readings.{zlin, zeq, zfits, zcast, t≤, t>, W64}
+use Rattle.whole.proofs.Signed.{zlin, zeq, zfits, zcast, t≤, t>, W64}
 use Rattle.whole.proofs.Ring.{negative-P}
 use Rattle.text.proofs.size_of.Statement.{statement}
 use Rattle.text.proofs.size_of.Tie as tie

@@ -1,7 +1,7 @@
 -- Four numbers that are small, added one after the other.
 use native.Mathlib.Omega.{arith}
 use Rattle.whole.proofs.Parts.{zin}
-use Rattle.whole.proofs.Readings.{zlin, zeq, zfits}
+use Rattle.whole.proofs.Signed.{zlin, zeq, zfits}
 use Rattle.blur.proofs.pass.blend.Statement.{statement}
 use Rattle.blur.proofs.pass.blend.Tie as tie
 

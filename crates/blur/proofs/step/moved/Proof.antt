@@ -1,7 +1,7 @@
 -- Either is a sum of two small numbers.
 use native.Mathlib.Omega.{arith}
 use Rattle.whole.proofs.Parts.{zin}
-use Rattle.whole.proofs.Readings.{zlin, zeq, zfits}
+use Rattle.whole.proofs.Signed.{zlin, zeq, zfits}
 use Rattle.blur.proofs.step.moved.Statement.{statement}
 use Rattle.blur.proofs.step.moved.Tie as tie
 

@@ -3,7 +3,7 @@ use borrow.Author.Needs.{needs}
 use native.Mathlib.Omega.{arith}
 use mathlib.Core.Path.{sym, _∙_}
 use Rattle.whole.proofs.Parts.{zin}
-use Rattle.whole.proofs.Readings.{zlow, zeq, zfits}
+use Rattle.whole.proofs.Signed.{zlow, zeq, zfits}
 use Rattle.blur.proofs.Moving.{step-here, step-else}
 use Rattle.blur.proofs.step.step_at.Statement.{statement}
 use Rattle.blur.proofs.step.step_at.Tie as tie

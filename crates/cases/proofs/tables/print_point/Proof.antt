@@ -3,7 +3,7 @@ use mir.Syntax.{w32}
 use mir.Val.{SFits}
 use Rattle.whole.specs.Lists.{at}
 use Rattle.whole.proofs.Parts.{zin}
-use Rattle.whole.proofs.Readings.{zlin, zfits}
+use Rattle.whole.proofs.Signed.{zlin, zfits}
 use borrow.Author.Needs.{needs}
 use Rattle.cases.proofs.tables.print_point.Statement.{statement}
 use Rattle.cases.proofs.tables.print_point.Tie as tie

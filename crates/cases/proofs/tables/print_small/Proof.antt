@@ -1,7 +1,7 @@
 use lib.IntN.{pos, negsuc}
 use native.Mathlib.Omega.{arith}
 use Rattle.whole.proofs.Parts.{zin}
-use Rattle.whole.proofs.Readings.{zlin, zfits, t≥, W64}
+use Rattle.whole.proofs.Signed.{zlin, zfits, t≥, W64}
 use borrow.Author.Needs.{needs}
 use Rattle.cases.proofs.tables.print_small.Statement.{statement}
 use Rattle.cases.proofs.tables.print_small.Tie as tie

@@ -8,7 +8,7 @@ use mir.Syntax.{w64}
 use mir.Val.{SFits, toZ, ofZ}
 use mir.Facts.{toZ-ofZ}
 use Rattle.whole.proofs.Parts.{zin}
-use Rattle.whole.proofs.Readings.{zlow, zeq, zfits}
+use Rattle.whole.proofs.Signed.{zlow, zeq, zfits}
 use Rattle.enter.specs.Slots.{slotRows}
 use Rattle.table.proofs.Turns.{holds-at, holds-same}
 use Rattle.enter.proofs.Slots.{slot-none, slot-one, pour-none, pour-one, one-addable}

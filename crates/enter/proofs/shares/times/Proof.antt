@@ -1,6 +1,6 @@
 use native.Mathlib.Omega.{arith}
 use Rattle.whole.proofs.Parts.{zin, mul-is}
-use Rattle.whole.proofs.Readings.{zlin, zlow, zeq, zfits}
+use Rattle.whole.proofs.Signed.{zlin, zlow, zeq, zfits}
 use Rattle.whole.proofs.Size.{abs-times, abs-of}
 use Rattle.whole.specs.Size.{Abs≤}
 use lib.IntN.{pos, _*ℤ_}

@@ -2,7 +2,7 @@ use native.Mathlib.Omega.{arith}
 use lib.IntN.{_*ℤ_}
 use Rattle.whole.specs.Size.{Abs≤}
 use Rattle.whole.proofs.Parts.{zin, mul-is}
-use Rattle.whole.proofs.Readings.{zlin, zeq, zfits}
+use Rattle.whole.proofs.Signed.{zlin, zeq, zfits}
 use Rattle.whole.proofs.Size.{abs-times}
 use Rattle.lattice.specs.Limits.{most-W}
 use Rattle.blur.specs.Inner.{most-blurred}

@@ -6,7 +6,7 @@ use lib.ListN.{length, drop}
 use mir.Syntax.{w32}
 use mir.Val.{SFits, ofZ}
 use Rattle.whole.specs.Lists.{at}
-use Rattle.whole.proofs.Readings.{bits-eq}
+use Rattle.whole.proofs.Signed.{bits-eq}
 use Rattle.index.specs.Keys.{same}
 use Rattle.index.proofs.Equality.{same-turn, same-stop, same-lengths, same-done}
 use Rattle.index.proofs.keys.same_key.Statement.{statement}

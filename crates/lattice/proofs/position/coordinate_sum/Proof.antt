@@ -10,7 +10,7 @@ use Rattle.whole.specs.Size.{Abs≤}
 use Rattle.whole.specs.Sum.{sum}
 use Rattle.whole.specs.Lists.{at}
 use Rattle.whole.proofs.Parts.{zin}
-use Rattle.whole.proofs.Readings.{zlin, zeq, zfits, eq-plus}
+use Rattle.whole.proofs.Signed.{zlin, zeq, zfits, eq-plus}
 use Rattle.whole.proofs.Size.{zabs}
 use Rattle.whole.proofs.Sum.{sum-more}
 use Rattle.lattice.proofs.position.coordinate_sum.Statement.{statement}

@@ -6,7 +6,7 @@ use mathlib.Core.Bool.{true}
 use lib.IntN.{pos}
 use mir.Syntax.{w64}
 use mir.Val.{SFits, ofZ}
-use Rattle.whole.proofs.Readings.{bits-eq}
+use Rattle.whole.proofs.Signed.{bits-eq}
 use Rattle.lattice.specs.Position.{allNear}
 use Rattle.lattice.proofs.Judging.{judged-four, judged-five, judged-none, sum-zero, sum-other}
 use Rattle.lattice.proofs.position.judge.Statement.{statement}

@@ -3,7 +3,7 @@ use borrow.Author.Needs.{needs}
 use native.Mathlib.Omega.{arith}
 use mathlib.Core.Path.{ap₂, _∙_}
 use Rattle.whole.proofs.Parts.{zin}
-use Rattle.whole.proofs.Readings.{zlin, zfits, zeq}
+use Rattle.whole.proofs.Signed.{zlin, zfits, zeq}
 use Rattle.table.specs.Pour.{setPair}
 use Rattle.pour.proofs.pair.raise_pair.Statement.{statement}
 use Rattle.pour.proofs.pair.raise_pair.Tie as tie

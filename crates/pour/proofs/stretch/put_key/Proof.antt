@@ -9,7 +9,7 @@ use mir.Syntax.{w32}
 use mir.Val.{SFits}
 use mir.Facts.{toZ-ofZ}
 use Rattle.whole.specs.Lists.{at, splice}
-use Rattle.whole.proofs.Readings.{W32}
+use Rattle.whole.proofs.Signed.{W32}
 use Rattle.whole.proofs.Lists.{splice-none, splice-more, splice-all, splice-whole}
 use Rattle.pour.proofs.stretch.put_key.Statement.{statement}
 use Rattle.pour.proofs.stretch.put_key.Tie as tie

@@ -1,7 +1,7 @@
 use borrow.Author.Needs.{needs}
 use native.Mathlib.Omega.{arith}
 use Rattle.whole.proofs.Parts.{zin}
-use Rattle.whole.proofs.Readings.{zlin, zfits}
+use Rattle.whole.proofs.Signed.{zlin, zfits}
 use Rattle.report.proofs.Numbers.{room-for, written-as, answer-numbers}
 use Rattle.report.proofs.lines.put_answer.Statement.{statement}
 use Rattle.report.proofs.lines.put_answer.Tie as tie

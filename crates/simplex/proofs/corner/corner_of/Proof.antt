@@ -7,7 +7,7 @@ use lib.Dec.{lit<}
 use Rattle.whole.specs.Size.{Abs≤}
 use Rattle.whole.specs.Floor.{remainder}
 use Rattle.whole.proofs.Parts.{zin}
-use Rattle.whole.proofs.Readings.{zlin, zeq, zfits, W32}
+use Rattle.whole.proofs.Signed.{zlin, zeq, zfits, W32}
 use Rattle.whole.proofs.Size.{back32}
 use Rattle.simplex.proofs.Steps.{span-of, spread-le, corner-made}
 use Rattle.simplex.proofs.corner.corner_of.Statement.{statement}

@@ -8,7 +8,7 @@ use borrow.Author.Tests.{lt-ltb, le-ltb}
 use Rattle.whole.specs.Size.{P, N, Abs≤}
 use Rattle.whole.specs.Lists.{at}
 use Rattle.whole.proofs.Parts.{mul-is, zin}
-use Rattle.whole.proofs.Readings.{zlow, zeq, zfits}
+use Rattle.whole.proofs.Signed.{zlow, zeq, zfits}
 use Rattle.whole.proofs.Size.{abs-times}
 use Rattle.simplex.proofs.corner.point_at.Statement.{statement}
 use Rattle.simplex.proofs.corner.point_at.Tie as tie

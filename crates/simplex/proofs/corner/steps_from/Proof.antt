@@ -9,7 +9,7 @@ use mir.Syntax.{w32}
 use mir.Val.{toZ}
 use Rattle.whole.specs.Size.{Abs≤, Within}
 use Rattle.whole.proofs.Parts.{zin}
-use Rattle.whole.proofs.Readings.{zlin, zeq, zfits, zcast, W32}
+use Rattle.whole.proofs.Signed.{zlin, zeq, zfits, zcast, W32}
 use Rattle.whole.proofs.Size.{zabs, back32}
 use Rattle.simplex.specs.Inner.{Between, StepsFrom, coordinate}
 use Rattle.simplex.proofs.Steps.{steps-none, steps-more, floor-near, rest-within}

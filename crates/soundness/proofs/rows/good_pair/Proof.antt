@@ -7,7 +7,7 @@ use lib.Signed.{leZ, _≤ℤ_}
 use mir.Syntax.{w64}
 use mir.Val.{toZ}
 use Rattle.whole.proofs.Parts.{zin}
-use Rattle.whole.proofs.Readings.{zlin, zlow, zle, zlt, zeq, zfits, ole, olt, t<, t≥, W64}
+use Rattle.whole.proofs.Signed.{zlin, zlow, zle, zlt, zeq, zfits, ole, olt, t<, t≥, W64}
 use Rattle.lattice.specs.Limits.{most-value}
 use Rattle.soundness.proofs.Weighing.{pair-none, pair-heavy, pair-low, pair-rest}
 use Rattle.soundness.proofs.rows.good_pair.Statement.{statement}

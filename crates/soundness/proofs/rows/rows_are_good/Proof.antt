@@ -12,7 +12,7 @@ use Rattle.whole.specs.Size.{Abs≤, Within}
 use Rattle.whole.specs.Sum.{sum, all}
 use Rattle.whole.specs.Lists.{at}
 use Rattle.whole.proofs.Parts.{zin}
-use Rattle.whole.proofs.Readings.{zlin, zeq, zfits, eq-plus, W64}
+use Rattle.whole.proofs.Signed.{zlin, zeq, zfits, eq-plus, W64}
 use Rattle.whole.proofs.Size.{zabs}
 use Rattle.whole.proofs.Sum.{sum-more}
 use Rattle.whole.proofs.Tests.{all-more}

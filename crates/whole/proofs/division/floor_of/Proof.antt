@@ -7,7 +7,7 @@ use lib.Signed.{remZ, _≤ℤ_}
 use mir.Val.{toZ}
 use mir.Syntax.{w32}
 use Rattle.whole.proofs.Parts.{zin, zout}
-use Rattle.whole.proofs.Readings.{zlow, zeq, zfits, W32, Sizes, sizes}
+use Rattle.whole.proofs.Signed.{zlow, zeq, zfits, W32, Sizes, sizes}
 use Rattle.whole.proofs.Floor.{FloorNeg, floor-neg, floor-pos}
 use Rattle.whole.proofs.division.floor_of.Statement.{statement}
 use Rattle.whole.proofs.division.floor_of.Tie as tie

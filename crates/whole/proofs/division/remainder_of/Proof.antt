@@ -7,7 +7,7 @@ use lib.Signed.{remZ, _<ℤ_, _≤ℤ_}
 use mir.Val.{toZ}
 use mir.Syntax.{w32}
 use Rattle.whole.proofs.Parts.{zin, zout}
-use Rattle.whole.proofs.Readings.{zlow, zeq, zfits, zcast, W32, Sizes, sizes}
+use Rattle.whole.proofs.Signed.{zlow, zeq, zfits, zcast, W32, Sizes, sizes}
 use Rattle.whole.proofs.Floor.{floor-neg, floor-pos}
 use Rattle.whole.proofs.division.remainder_of.Statement.{statement}
 use Rattle.whole.proofs.division.remainder_of.Tie as tie

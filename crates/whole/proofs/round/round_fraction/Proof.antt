@@ -6,7 +6,7 @@ use lib.Signed.{quotZ, _≤ℤ_}
 use mir.Syntax.{w64}
 use Rattle.whole.specs.Size.{Abs≤}
 use Rattle.whole.proofs.Parts.{zin}
-use Rattle.whole.proofs.Readings.{zlin, zle, zeq, zfits, t<, t≥, W64, nz}
+use Rattle.whole.proofs.Signed.{zlin, zle, zeq, zfits, t<, t≥, W64, nz}
 use Rattle.whole.proofs.Size.{zabs}
 use Rattle.whole.proofs.Floor.{quot-abs}
 use Rattle.whole.proofs.Rounding.{rounded-pos, rounded-neg}

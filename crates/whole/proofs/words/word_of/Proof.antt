@@ -7,7 +7,7 @@ use mir.Syntax.{w32}
 use mir.Val.{SFits}
 use Rattle.whole.specs.Word.{word}
 use Rattle.whole.proofs.Parts.{zin}
-use Rattle.whole.proofs.Readings.{zlin, zeq, zfits, zcast, t≤, t>, W32, W64}
+use Rattle.whole.proofs.Signed.{zlin, zeq, zfits, zcast, t≤, t>, W32, W64}
 use Rattle.whole.proofs.words.word_of.Statement.{statement}
 use Rattle.whole.proofs.words.word_of.Tie as tie
 

@@ -1,8 +1,8 @@
 use borrow.Author.Needs.{needs}
 use Rattle.reader.proofs.Forms.{item-found}
 use Rattle.report.proofs.Settling.{opens-other, opens-outside, opens-wide, opens-taken}
-use Rattle.report.proofs.opening_of.Statement.{statement}
-use Rattle.report.proofs.opening_of.Tie as tie
+use Rattle.report.proofs.opening.opening_of.Statement.{statement}
+use Rattle.report.proofs.opening.opening_of.Tie as tie
 
 read-at-requires : tie.Need-read-at-requires
 read-at-requires c κs = search needs

@@ -1,9 +1,9 @@
-// The residual of a position: each coordinate divided once by W, into floor and remainder.
+// The splits of a position: each coordinate divided once by W, into floor and remainder.
 ghost use lib.IntN.{_-ℤ_};
 ghost use lib.ListN.{length};
 ghost use Rattle.whole.specs.Size.{Abs≤};
 ghost use Rattle.lattice.specs.Limits.{farthest};
-ghost use Rattle.simplex.specs.Inner.{Total, SplitOf, joined, Part, Between, coordinate, Near, Six, ResidualOf};
+ghost use Rattle.simplex.specs.Inner.{Total, SplitOf, joined, Part, Between, coordinate, Near, Six, SplitsOf};
 
 // x = w * floor + rest, with rest from 0 to w - 1.
 pub struct Split {
@@ -26,10 +26,10 @@ fn split_of(x: i32, w: u32) -> Split
 
 // The splits of up to six coordinates, in their order. They are written where the corners read them:
 // arrays handed back would be copied.
-pub fn put_residual(x: &[i32], w: u32, floors: &mut [i32; 6], rests: &mut [i32; 6])
+pub fn put_splits(x: &[i32], w: u32, floors: &mut [i32; 6], rests: &mut [i32; 6])
     requires { ⌜ Near w (now x) (length (now x)) ⌝ }
     requires { ⌜ Six (now floors) (now rests) ⌝ }
-    ensures { λ r. ⌜ ResidualOf w (length (now (x .entry))) (now (x .entry)) (now (floors .exit)) (now (rests .exit)) ⌝ }
+    ensures { λ r. ⌜ SplitsOf w (length (now (x .entry))) (now (x .entry)) (now (floors .exit)) (now (rests .exit)) ⌝ }
 {
     let n = x.len();
     for i in 0..n {
@@ -61,7 +61,7 @@ fn minus(a: Split, b: Split, w: u32) -> Split
     }
 }
 
-// The split of x[i] - x[j], from the residual of x.
+// The split of x[i] - x[j], from the splits of x.
 pub fn difference(floors: &[i32], rests: &[i32], i: usize, j: usize, w: u32) -> Split
     requires { ⌜ Between w (now floors) (now rests) i j ⌝ }
     ensures { λ r. ⌜

@@ -9,21 +9,21 @@ use lib.IntN.{ℤ, pos}
 use Rattle.whole.specs.Size.{Abs≤}
 use Rattle.whole.specs.Lists.{at}
 use Rattle.whole.proofs.Parts.{zin}
-use Rattle.whole.proofs.Readings.{zlin, zeq, W32}
+use Rattle.whole.proofs.Signed.{zlin, zeq, W32}
 use Rattle.whole.proofs.Size.{back32}
-use Rattle.simplex.specs.Inner.{Part, ResidualOf}
-use Rattle.simplex.proofs.Splits.{part-of, residual-none, residual-more}
-use Rattle.simplex.proofs.residual.put_residual.Statement.{statement}
-use Rattle.simplex.proofs.residual.put_residual.Tie as tie
+use Rattle.simplex.specs.Inner.{Part, SplitsOf}
+use Rattle.simplex.proofs.Splits.{part-of, splits-none, splits-more}
+use Rattle.simplex.proofs.split.put_splits.Statement.{statement}
+use Rattle.simplex.proofs.split.put_splits.Tie as tie
 
 abbrev Inv-loop : tie.InvT-loop
-Inv-loop x w floors₀ rests₀ n i₀ floors rests i = (i ≤ n) × (n ≡ length x) × ResidualOf w i x floors rests
+Inv-loop x w floors₀ rests₀ n i₀ floors rests i = (i ≤ n) × (n ≡ length x) × SplitsOf w i x floors rests
 
 abbrev μ-loop : tie.MeasureT-loop
 μ-loop x w floors₀ rests₀ n i₀ floors rests i = n - i
 
 loop-holds : tie.Need-loop-holds Inv-loop μ-loop
-loop-holds c = (search needs, refl, residual-none _ _ (c .pre .1))
+loop-holds c = (search needs, refl, splits-none _ _ (c .pre .1))
 
 mul-split-of : tie.Need-mul-split-of Inv-loop μ-loop
 mul-split-of c = search needs
@@ -70,7 +70,7 @@ loop-again c =
     let m = part-of (s .args .w) (at (s .args .x .now) (l .i)) (t .total .some) (t .near (l .i) (search needs)) in (
       search needs,
       refl,
-      residual-more (s .args .w) (l .i) (s .args .x .now) (omega (arith, t .few)) (l .inv .2)
+      splits-more (s .args .w) (l .i) (s .args .x .now) (omega (arith, t .few)) (l .inv .2)
           (back32 {B = 1000000} (rw (p .floor-is) (m .near)) (lit< tt) ∙ p .floor-is)
           (back32 {B = 384} (rw (p .rest-is) (small m (t .total .most))) (lit< tt) ∙ p .rest-is),
     )
@@ -82,8 +82,8 @@ returns c =
     let e : l .i ≡ length (s .args .x .now) = omega arith in
     rw (← e) (l .inv .2)
 
-pub put-residual-spec : {M : Type 1} → statement M
-put-residual-spec =
+pub put-splits-spec : {M : Type 1} → statement M
+put-splits-spec =
     tie.close
     (tie.spec
     Inv-loop

@@ -1,8 +1,8 @@
 -- The two splits as the machine has them are the lists' own; `minus` does the rest.
 use borrow.Author.Needs.{needs}
 use Rattle.simplex.proofs.Splits.{floor-back, rest-back, part-back, split-cong}
-use Rattle.simplex.proofs.residual.difference.Statement.{statement}
-use Rattle.simplex.proofs.residual.difference.Tie as tie
+use Rattle.simplex.proofs.split.difference.Statement.{statement}
+use Rattle.simplex.proofs.split.difference.Tie as tie
 
 mul-t8 : tie.Need-mul-t8
 mul-t8 c = search needs

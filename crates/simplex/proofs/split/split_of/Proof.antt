@@ -7,12 +7,12 @@ use lib.IntN.{ℤ, pos, _+ℤ_, _*ℤ_}
 use Rattle.whole.specs.Size.{P, N, Abs≤}
 use Rattle.whole.specs.Floor.{floor, remainder}
 use Rattle.whole.proofs.Parts.{zin}
-use Rattle.whole.proofs.Readings.{zlin, zlow, zeq, zfits, eq-plus, W32}
+use Rattle.whole.proofs.Signed.{zlin, zlow, zeq, zfits, eq-plus, W32}
 use Rattle.whole.proofs.Floor.{div-rem, remainder-lt}
 use Rattle.lattice.specs.Limits.{farthest}
 use Rattle.simplex.proofs.Splits.{part-of}
-use Rattle.simplex.proofs.residual.split_of.Statement.{statement}
-use Rattle.simplex.proofs.residual.split_of.Tie as tie
+use Rattle.simplex.proofs.split.split_of.Statement.{statement}
+use Rattle.simplex.proofs.split.split_of.Tie as tie
 
 -- the floor is that of x itself, and no larger; W times it is x less the remainder
 is : (c : tie.After-floor-of) → c .floor-of .result ≡ floor (c .before .args .x) (c .before .args .w)

@@ -5,10 +5,10 @@ use native.Mathlib.Omega.{arith}
 use lib.IntN.{ℤ, pos, _-ℤ_}
 use lib.Signed.{_<ℤ_, _≤ℤ_}
 use Rattle.whole.proofs.Parts.{zin}
-use Rattle.whole.proofs.Readings.{zlow, zeq, zfits, t<, t≥, W32}
+use Rattle.whole.proofs.Signed.{zlow, zeq, zfits, t<, t≥, W32}
 use Rattle.simplex.proofs.Splits.{minus-low, minus-high}
-use Rattle.simplex.proofs.residual.minus.Statement.{statement}
-use Rattle.simplex.proofs.residual.minus.Tie as tie
+use Rattle.simplex.proofs.split.minus.Statement.{statement}
+use Rattle.simplex.proofs.split.minus.Tie as tie
 
 -- the difference of the remainders, as the machine has it
 abbrev left : tie.Start → ℤ
