@@ -67,14 +67,6 @@ no-query c t l a End o at h = written-nothing o at
 no-query c t l a (Refused x) o at h = written-nothing o at
 
 -- ---- the items in turn
--- past the settings an item that takes bytes is a reading or a query, and the log has them
-whole-item : (l : List ℕ) (a : ℕ) (i : Item) → 0 < a → (widthOf i ≡ 0 → ⊥) → Formed l a i → a + widthOf i ≤ length l
-whole-item l a (Item.Settings d S C) h n f = absurd (omega arith)
-whole-item l a (Reading d) h n f = f .whole
-whole-item l a (Query d) h n f = f .whole
-whole-item l a End h n f = absurd (n refl)
-whole-item l a (Refused x) h n f = absurd (n refl)
-
 module _ (c : Settings) (t : Table) (l : List ℕ) where
   step-text : (a : ℕ) (i : Item) (w : Walk) → 0 < a → (widthOf i ≡ 0 → ⊥) → Formed l a i
       → perQuery (replyLine c t) (itemThen l a i w) ≡ replyText c t l a i ++ perQuery (replyLine c t) w
@@ -114,9 +106,6 @@ module _ {c : Settings} {t : Table} {l o : List ℕ} {a next : ℕ} {out : List 
     module _ (n : after ≡ offset → ⊥) where
       some : widthOf i ≡ 0 → ⊥
       some z = n (omega (arith, k, z))
-
-      pub nearer : length l - after < length l - offset
-      nearer = omega (arith, whole-item l offset i (P .later) some (of-form l offset i e), k, n)
 
       ahead : linesFrom c t l offset ≡ replyText c t l offset i ++ linesFrom c t l after
       ahead = rw k (walk-lines ∙ step-text c t l offset i (walk l (offset + widthOf i)) (P .later) some (of-form l offset i e))

@@ -14,7 +14,7 @@ use Rattle.filter.specs.Answer.{codeBy, valueBy}
 use Rattle.filter.specs.Inner.{Smooth}
 use Rattle.listing.specs.Listing.{order}
 use Rattle.reader.specs.Items.{settingsOf, itemAt, valuesOf}
-use Rattle.reader.specs.Walk.{after-settings, walk}
+use Rattle.reader.specs.Walk.{items}
 use Rattle.log.specs.Loading.{load}
 use Rattle.reader.specs.declared.items.Item.{Item}
 use Rattle.reader.specs.declared.items.Item.the-variants.{Reading, Query, End, Refused}
@@ -95,13 +95,13 @@ pub record ReplyRoom (c : Settings) (t : Table) (l : List ℕ) (a : ℕ) (i : It
 pub record RepliesRoom (c : Settings) (t : Table) (l : List ℕ) (at size : ℕ) : Type 0 where
   pub smooth : Smooth c t
   pub settings-are : c ≡ settingsOf l
-  pub space : at + length (perQuery (replyLine c t) (walk l after-settings)) ≤ size
+  pub space : at + length (perQuery (replyLine c t) (items l)) ≤ size
 
 -- the table of a log, and room for the answers to its queries
 pub record AnswersRoom (c : Settings) (t : Table) (l : List ℕ) (at size : ℕ) : Type 0 where
   pub printable : Printable c t
   pub settings-are : c ≡ settingsOf l
-  pub space : at + length (answerLines c t (walk l after-settings)) ≤ size
+  pub space : at + length (answerLines c t (items l)) ≤ size
 
 -- the table of a log, and room for all of its text
 pub record TableRoom (c : Settings) (t : Table) (l : List ℕ) (size : ℕ) : Type 0 where

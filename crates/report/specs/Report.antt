@@ -13,7 +13,7 @@ use Rattle.table.specs.Calls.{ranged, fresh}
 use Rattle.listing.specs.Listing.{order}
 use Rattle.filter.specs.Answer.{code, answer}
 use Rattle.reader.specs.Items.{settingsOf, itemAt, numberOf}
-use Rattle.reader.specs.Walk.{Walk, reads, asks, ends, after-settings, walk}
+use Rattle.reader.specs.Walk.{Walk, reads, asks, ends, items}
 use Rattle.log.specs.Loading.{Load, orElse, load}
 use Rattle.text.specs.Text.{line}
 
@@ -72,7 +72,7 @@ refusedLine x a = line refused-word (pos x ∷ pos a ∷ [])
 
 -- the table of a log, and the answers to its queries
 abbrev pub tableText : Settings → Table → List ℕ → List ℕ
-tableText c t l = headLine c t ++ (pointLines c t ++ answerLines c t (walk l after-settings))
+tableText c t l = headLine c t ++ (pointLines c t ++ answerLines c t (items l))
 
 -- a log that is loaded: its table, or the one line
 abbrev pub loadedText : List ℕ → ℕ → Load → List ℕ

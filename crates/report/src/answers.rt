@@ -1,7 +1,7 @@
 // The lines of a log's queries, in their order, answered over all of its readings.
 ghost use lib.ListN.{length};
 ghost use Rattle.table.specs.Heads.{settings, table};
-ghost use Rattle.reader.specs.Walk.{after-settings, walk};
+ghost use Rattle.reader.specs.Walk.{items};
 ghost use Rattle.text.specs.Text.{Written};
 ghost use Rattle.report.specs.Report.{answerLines, perQuery};
 ghost use Rattle.report.specs.Inner.{replyLine, replyText, ReplyRoom, RepliesRoom, AnswersRoom};
@@ -57,13 +57,14 @@ fn put_replies(
     ensures { λ r. ⌜
         (let c = settings head in
         let t = table head (now (keys .entry)) (now (sheet .entry)) (now (index .entry)) in
-        Written (now (out .entry)) at (perQuery (replyLine c t) (walk (now (log .entry)) after-settings)) r (now (out .exit)))
+        Written (now (out .entry)) at (perQuery (replyLine c t) (items (now (log .entry)))) r (now (out .exit)))
         ⌝ }
 {
     let mut next = at;
     let mut offset = AFTER_SETTINGS;
     loop {
         let found = read_at(log, offset);
+        // no byte is taken: the items end here
         if found.next == offset {
             break;
         }
@@ -87,7 +88,7 @@ pub fn put_answers(
     requires { ⌜ AnswersRoom (settings head) (table head (now keys) (now sums) (now index)) (now log) at (length (now out)) ⌝ }
     ensures { λ r. ⌜
         (let t = table head (now (keys .entry)) (now (sums .entry)) (now (index .entry)) in
-        Written (now (out .entry)) at (answerLines (settings head) t (walk (now (log .entry)) after-settings)) r (now (out .exit)))
+        Written (now (out .entry)) at (answerLines (settings head) t (items (now (log .entry)))) r (now (out .exit)))
         ⌝ }
 {
     let mut first = [0i64; 2 * MOST_LOG_CAPACITY];

@@ -67,7 +67,7 @@ pub record Sound (c : Settings) (t : Table) : Type 0 where
   pub good : (i : ℕ) → i < t .m → Good (c .d) (row c t i)
   pub masses : sum (t .m) (mass t) ≡ pos (W (c .d) (c .S) * t .n)
 
--- the settings are in range
+-- "Dimension d: 1 to 5. Fineness S: 1 to 64. Capacity C: 1 to 8,192 points."
 pub record Ranged (c : Settings) : Type 0 where
   pub d-least : 1 ≤ c .d
   pub d-most : c .d ≤ most-d
@@ -76,7 +76,7 @@ pub record Ranged (c : Settings) : Type 0 where
   pub C-least : 1 ≤ c .C
   pub C-most : c .C ≤ most-C
 
--- the lent slices have their lengths
+-- "three lent slices: keys (d·C signed 32-bit numbers), sums (2·C signed 64-bit numbers …), index (2·C unsigned 16-bit numbers)"
 pub record Shape (c : Settings) (t : Table) : Type 0 where
   pub keys : length (t .keys) ≡ c .d * c .C
   pub sums : length (t .sums) ≡ 2 * c .C

@@ -3,8 +3,8 @@ use Prim.Native.Nat.{_-_}
 use lib.ListN.{length}
 use Rattle.table.specs.Heads.{settings, table}
 use Rattle.text.proofs.Lines.{written-length}
-use Rattle.reader.proofs.Forms.{item-found, next-found}
-use Rattle.report.proofs.Replies.{Replying, replies-start, nearer, reply-room, replies-more, replies-end}
+use Rattle.reader.proofs.Forms.{item-found, next-found, less-left}
+use Rattle.report.proofs.Replies.{Replying, replies-start, reply-room, replies-more, replies-end}
 use Rattle.report.proofs.answers.put_replies.Statement.{statement}
 use Rattle.report.proofs.answers.put_replies.Tie as tie
 
@@ -30,10 +30,7 @@ put-reply-requires c κs =
 loop-less : tie.Need-loop-less Inv-loop μ-loop
 loop-less c =
     let s = c .before .before .before .before in
-    let b = s .before .before in
-    let l = b .before in
-    let e = b .read-at .ensures in
-    nearer (l .before .before .before .before .pre) (l .loop .inv) (item-found _ _ _ e) (next-found _ _ _ e) (s .if1 .left)
+    less-left _ _ _ (s .before .before .read-at .ensures) (s .if1 .left)
 
 loop-again : tie.Need-loop-again Inv-loop μ-loop
 loop-again c =
