@@ -6,11 +6,11 @@
 demo:
 	rt check
 	@echo
-	target/bin/dyemap < crates/dyemap/stdin
+	@.ci/started target/bin/dyemap < crates/dyemap/stdin
 
 test:
 	.ci/run
 
 bench:
-	rt staticlib export
+	.ci/library
 	cd rust && PATH="$$PATH:$$HOME/.cargo/bin" cargo run --release --offline --locked --package bench
