@@ -161,7 +161,7 @@ refused-leaves-all = record {
 -- ---- the functions inside
 pub inner-only : InnerOnly
 inner-only = record {
-  two-bytes-at = λ x a b A B. A .0 ∙ sym (B .0);
+  content-at = λ l o k numbers a b A B. λ i. ((A .means-is ∙ sym (B .means-is)) i, (A .after-is ∙ sym (B .after-is)) i);
   enclose = λ d S x a b A B. λ i. ((A .weights-are ∙ sym (B .weights-are)) i, (A .coords-are ∙ sym (B .coords-are)) i);
   add-row = λ t a b A B. λ i. (
     (A .points-are ∙ sym (B .points-are)) i,

@@ -13,24 +13,17 @@ use Rattle.whole.proofs.Tests.{T-true, T-false}
 use Rattle.lattice.specs.Refusals.{first, kind-not-listed, settings-misplaced, other-dimension, body-cut}
 use Rattle.table.proofs.Refusals.{T-of}
 use Rattle.reader.specs.Bytes.{byteAt}
-use Rattle.reader.specs.Kinds.{kindOf, bodyLength, isListed, isSettings, ofDimension}
+use Rattle.reader.specs.Kinds.{kindOf, bodyLength, isListed, placed, ofDimension}
 use Rattle.reader.specs.declared.kinds.Kind.{Kind}
-use Rattle.reader.specs.declared.kinds.Kind.the-variants.{OfSettings, OfReading, OfQuery, Unlisted}
-use Rattle.reader.specs.Items.{settingsOf, placed, formRefusal, content, unless, endAt, itemAt, numberOf}
-use Rattle.reader.proofs.Forms.{none-fails}
+use Rattle.reader.specs.declared.items.Item.the-variants.{Of}
+use Rattle.reader.specs.Items.{settingsOf, formRefusal, unless, endAt, itemAt, numberOf}
 use Rattle.promises.specs.Refusals.{Not}
 use Rattle.promises.specs.LogRefusals.{ItemRefused}
 
 -- ---- the number of an item is that of its form
-listed-none : (l : List ℕ) (k : Kind) → T (isListed k) → numberOf (content l k) ≡ 0
-listed-none l OfSettings h = refl
-listed-none l (OfReading d) h = refl
-listed-none l (OfQuery d) h = refl
-listed-none l Unlisted h = absurd h
-
-form-number : (l : List ℕ) (a : ℕ) (k : Kind) (x : ℕ) → formRefusal l a k ≡ x → numberOf (unless x (content l k)) ≡ x
-form-number l a k zero e = listed-none l k (none-fails l a k e .listed)
-form-number l a k (suc x) e = refl
+form-number : (x : ℕ) (k : Kind) → numberOf (unless x (Of k)) ≡ x
+form-number zero k = refl
+form-number (suc x) k = refl
 
 module _ (l : List ℕ) (a : ℕ) where
   abbrev k : Kind
@@ -41,7 +34,7 @@ module _ (l : List ℕ) (a : ℕ) where
 
   there : a < length l → number ≡ formRefusal l a k
   unfolding itemAt
-  there h = rw (lt-leb (length l) a h) (form-number l a k (formRefusal l a k) refl)
+  there h = rw (lt-leb (length l) a h) (form-number (formRefusal l a k) k)
 
   past : length l ≤ a → number ≡ numberOf (endAt a)
   unfolding itemAt
@@ -52,7 +45,7 @@ module _ (l : List ℕ) (a : ℕ) where
   listed = isListed k
 
   abbrev stands : Bool
-  stands = placed (isSettings k) a
+  stands = placed k a
 
   abbrev alike : Bool
   alike = ofDimension (settingsOf l .d) k

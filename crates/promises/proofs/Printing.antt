@@ -13,11 +13,12 @@ use Rattle.listing.specs.Listing.{order, listed}
 use Rattle.listing.proofs.Listings.{order-length}
 use Rattle.filter.specs.Answer.{code, answer}
 use Rattle.reader.specs.Items.{settingsOf}
+use Rattle.reader.specs.Content.{Said, reads, asks, refuses}
 use Rattle.reader.specs.Walk as log
 use Rattle.log.specs.Loading.{load}
 use Rattle.reader.specs.Walk.{items}
 use Rattle.text.specs.Text.{line}
-use Rattle.report.specs.Report.{point-word, headLine, pointLine, pointLines, answerLine, answerLines, perQuery, tableText}
+use Rattle.report.specs.Report.{point-word, headLine, pointLine, pointLines, answerLine, answerLines, queryText, perQuery, tableText}
 use Rattle.promises.specs.History.{loading, capacity, run, readings}
 use Rattle.promises.specs.Order.{Same, Printed, PrintedTheSame}
 use Rattle.promises.proofs.Program.{taken-whole}
@@ -38,10 +39,15 @@ points-of-listing c t = collect-cong (t .m) (λ j. pointLine c t (getD (order c 
     ap rowLine (sym (map-at (row c t) (order c t) j 0 _ (omega (arith, h, order-length c t)))))
 
 -- ---- the lines of answers
+lines-of-one : (f : List ℤ → List ℕ) (s : Said) (qs : List (List ℤ)) → queryText f s ++ flatMap f qs ≡ flatMap f (log.queriesIn s ++ qs)
+unfolding flatMap
+lines-of-one f (reads r) qs = refl
+lines-of-one f (asks q) qs = refl
+lines-of-one f (refuses x) qs = refl
+
 lines-of-queries : (f : List ℤ → List ℕ) (w : log.Walk) → perQuery f w ≡ flatMap f (log.queries w)
 unfolding perQuery log.queries flatMap
-lines-of-queries f (log.reads a r w) = lines-of-queries f w
-lines-of-queries f (log.asks a q w) = ap (λ (x : List ℕ). f q ++ x) (lines-of-queries f w)
+lines-of-queries f (log.then a s w) = ap (λ (x : List ℕ). queryText f s ++ x) (lines-of-queries f w) ∙ lines-of-one f s (log.queries w)
 lines-of-queries f (log.ends x a) = refl
 
 -- ---- tables that answer alike, of one d and S, with the same queries

@@ -1,29 +1,30 @@
 -- Where loading stops: at the first place of the walk whose item has a number that is not 0, or at the log's length, with the readings before it in
 -- the table.
 use mathlib.Core.Path.{_≡_, refl, sym, ap, ap₂, subst, _∙_}
-use mathlib.Core.List.{List, _∷_}
+use mathlib.Core.List.{List, _++_}
 use mathlib.Core.Logic.{_⊎_, inl, inr}
 use Prim.Native.Nat.{ℕ, zero, suc, _+_, _-_, _≤_, _<_}
 use native.Mathlib.Omega.{arith}
-use lib.IntN.{ℤ}
 use lib.ListN.{length}
 use lib.Seq.{take-length}
 use borrow.Author.Tests.{lt-ltb, le-ltb}
 use Rattle.table.specs.Table.{Settings, Table}
 use Rattle.table.specs.Reading as table
 use Rattle.table.specs.Calls.{Outcome, enterAll, fresh, freshRefusal}
-use Rattle.table.proofs.Entering.{enter-yes}
-use Rattle.reader.specs.Items.{settingsOf, itemAt, valuesOf, widthOf}
-use Rattle.reader.specs.Walk.{Walk, reads, asks, ends, after-settings, itemThen, walkFrom, walk, readings, items, Place, before}
-use Rattle.log.specs.Loading.{Load, orElse, startRefusal, stopAt, loadWalk, started, load}
+use Rattle.reader.specs.declared.kinds.Kind.{Kind}
+use Rattle.reader.specs.Items.{after-settings, settingsOf, itemAt, widthOf}
+use Rattle.reader.specs.Content.{Said, saidAt}
+use Rattle.reader.specs.Walk.{Walk, then, ends, itemThen, walkFrom, walk, readingsIn, readings, items, Place, before}
+use Rattle.log.specs.Loading.{Load, orElse, startRefusal, takeNumber, takeTable, itemNumber, stopAt, loadWalk, started, load}
 use Rattle.reader.specs.declared.items.Item.{Item}
-use Rattle.reader.specs.declared.items.Item.the-variants.{Reading, Query, End, Refused}
+use Rattle.reader.specs.declared.items.Item.the-variants.{Of, End, Refused}
 use Rattle.reader.proofs.Forms.{Formed, formed}
 use Rattle.log.proofs.Leaving.{walk-settings, itemsLoaded, load-accepted, start-zero}
 use Rattle.reader.proofs.CutItems.{item-end}
 use Rattle.log.proofs.Cuts.{place-from}
 use Rattle.log.proofs.Theorems.{taken-whole}
-use Rattle.promises.specs.LogRefusals.{numberFor, LoadStops, LoadRefuses}
+use Rattle.log.proofs.WholeLogs.{enter-said}
+use Rattle.promises.specs.LogRefusals.{LoadStops, LoadRefuses}
 
 -- ---- what becomes of the readings before a place of a walk, entered into the table t
 abbrev entersTo : Settings → Table → Walk → ℕ → Outcome
@@ -37,26 +38,18 @@ abbrev Alike : Outcome → Outcome → Type 0
 Alike o u = (o .number ≡ u .number) × (o .table ≡ u .table)
 
 module _ (c : Settings) (t : Table) (a : ℕ) (w : Walk) where
-  none-at-reading : (r : table.Reading) → entersTo c t (reads a r w) a ≡ record { taken = 0; number = 0; table = t }
+  none-at-item : (s : Said) → entersTo c t (then a s w) a ≡ record { taken = 0; number = 0; table = t }
   unfolding before enterAll
-  none-at-reading r = rw (le-ltb a a (omega arith)) refl
+  none-at-item s = rw (le-ltb a a (omega arith)) refl
 
-  after-reading : (r : table.Reading) (p : ℕ) → a < p → table.refusal c t r ≡ 0 → Alike (entersTo c t (reads a r w) p) (entersTo c (table.entered c t r) w p)
+  after-item : (s : Said) (p : ℕ) → a < p → takeNumber c t s ≡ 0 → Alike (entersTo c t (then a s w) p) (entersTo c (takeTable c t s) w p)
   unfolding before
-  after-reading r p h e = rw (lt-ltb a p h) (let y = enter-yes c t r (before p w) e in (ap (λ (o : Outcome). o .number) y, ap (λ (o : Outcome). o .table) y))
-
-  after-query : (q : List ℤ) (p : ℕ) → a < p → Alike (entersTo c t (asks a q w) p) (entersTo c t w p)
-  unfolding before
-  after-query q p h = rw (lt-ltb a p h) (refl, refl)
+  after-item s p h e = rw (lt-ltb a p h) (enter-said c t s (before p w) e)
 
   -- all readings are before a place past the first, if all later ones are
-  readings-past : (r : table.Reading) (p : ℕ) → a < p → before p w ≡ readings w → before p (reads a r w) ≡ readings (reads a r w)
+  readings-past : (s : Said) (p : ℕ) → a < p → before p w ≡ readings w → before p (then a s w) ≡ readings (then a s w)
   unfolding before readings
-  readings-past r p h e = rw (lt-ltb a p h) (ap (λ (rs : List table.Reading). r ∷ rs) e)
-
-  readings-past-query : (q : List ℤ) (p : ℕ) → a < p → before p w ≡ readings w → before p (asks a q w) ≡ readings (asks a q w)
-  unfolding before readings
-  readings-past-query q p h e = rw (lt-ltb a p h) e
+  readings-past s p h e = rw (lt-ltb a p h) (ap (λ (rs : List table.Reading). readingsIn s ++ rs) e)
 
 module _ (l : List ℕ) where
   abbrev c : Settings
@@ -64,7 +57,7 @@ module _ (l : List ℕ) where
 
   -- the number of the item at an offset, where t is the table before it
   abbrev numberIn : Table → ℕ → ℕ
-  numberIn t a = numberFor l t a (itemAt l a)
+  numberIn t a = itemNumber c t l a (itemAt l a)
 
   -- ---- the walk w loaded into t stops as o
   record Stops (t : Table) (w : Walk) (o : Load) : Type 0 where
@@ -85,17 +78,17 @@ module _ (l : List ℕ) where
 
   module _ (t : Table) (a : ℕ) (w : Walk) (after : (p : ℕ) → Place p w → a < p) where
     -- at a reading that is refused
-    stops-refused : (r : table.Reading) (x : ℕ) → numberIn t a ≡ suc x → Stops t (reads a r w) (record { number = suc x; offset = a; settings = c; table = t })
-    stops-refused r x e = record {
+    stops-refused : (s : Said) (x : ℕ) → numberIn t a ≡ suc x → Stops t (then a s w) (record { number = suc x; offset = a; settings = c; table = t })
+    stops-refused s x e = record {
       place = inl refl;
       number-is = sym e;
       none-before = none;
-      table-is = sym (ap (λ (o : Outcome). o .table) (none-at-reading c t a w r));
-      all-taken = ap (λ (o : Outcome). o .number) (none-at-reading c t a w r);
+      table-is = sym (ap (λ (o : Outcome). o .table) (none-at-item c t a w s));
+      all-taken = ap (λ (o : Outcome). o .number) (none-at-item c t a w s);
       all-read = λ z. absurd (omega arith);
     }
       where
-        none : (p : ℕ) → Place p (reads a r w) → p < a → numberIn (tableAt c t (reads a r w) p) p ≡ 0
+        none : (p : ℕ) → Place p (then a s w) → p < a → numberIn (tableAt c t (then a s w) p) p ≡ 0
         none p (inl z) h = absurd (omega arith)
         none p (inr z) h = absurd (omega (arith, after p z))
 
@@ -119,32 +112,25 @@ module _ (l : List ℕ) where
         none p (inl z) h = subst (λ (p : ℕ). numberIn (tableAt c t v p) p ≡ 0) (sym z) e
         none p (inr z) h = ap (λ (u : Table). numberIn u p) (same p (after p z) .1) ∙ S .none-before p z h
 
-    stops-query : (d : ℕ) → itemAt l a ≡ Query d → Loading t w → Loading t (itemThen l a (Query d) w)
+    stops-item : (k : Kind) → itemAt l a ≡ Of k → ((u : Table) → Loading u w) → Loading t (itemThen l a (Of k) w)
     unfolding loadWalk
-    stops-query d e = goes-on t (itemThen l a (Query d) w) _ (λ p. inr) (λ p z. z) (ap (numberFor l _ a) e) (after-query c t a w (valuesOf l a (Query d)))
-        (readings-past-query c t a w (valuesOf l a (Query d)))
-
-    stops-reading : (d : ℕ) → itemAt l a ≡ Reading d → ((u : Table) → Loading u w) → Loading t (itemThen l a (Reading d) w)
-    unfolding loadWalk
-    stops-reading d e k = go (table.refusal c t r) refl
+    stops-item k e later = go (takeNumber c t s) refl
       where
-        r : table.Reading
-        r = table.readingAt d (valuesOf l a (Reading d)) 0
+        s : Said
+        s = saidAt l a k
 
-        go : (x : ℕ) → table.refusal c t r ≡ x → Stops t (reads a r w) (stopAt x c t a (loadWalk c (table.entered c t r) w))
+        go : (x : ℕ) → takeNumber c t s ≡ x → Stops t (then a s w) (stopAt x c t a (loadWalk c (takeTable c t s) w))
         go zero y =
-            let u = table.entered c t r in
-            let none = ap (λ (o : Outcome). numberIn (o .table) a) (none-at-reading c t a w r) ∙ ap (numberFor l t a) e ∙ y in
-            goes-on u (reads a r w) _ (λ p. inr) (λ p z. z) none (λ p h. after-reading c t a w r p h y) (readings-past c t a w r) (k u)
-        go (suc x) y = stops-refused r x (ap (numberFor l t a) e ∙ y)
+            let u = takeTable c t s in
+            let none = ap (λ (o : Outcome). numberIn (o .table) a) (none-at-item c t a w s) ∙ ap (itemNumber c t l a) e ∙ y in
+            goes-on u (then a s w) _ (λ p. inr) (λ p z. z) none (λ p h. after-item c t a w s p h y) (readings-past c t a w s) (later u)
+        go (suc x) y = stops-refused s x (ap (itemNumber c t l a) e ∙ y)
 
   stops-step : (t : Table) (a : ℕ) (i : Item) (w : Walk) → itemAt l a ≡ i → Formed l a i → ((p : ℕ) → Place p w → a + widthOf i ≤ p)
       → (0 < widthOf i → a + widthOf i ≤ length l → (u : Table) → Loading u w) → Loading t (itemThen l a i w)
-  stops-step t a (Item.Settings d S C) w e f g k = stops-end t a _ (ap (numberFor l t a) e)
-  stops-step t a (Reading d) w e f g k = stops-reading t a w (λ p z. omega (arith, g p z)) d e (k (omega arith) (f .whole))
-  stops-step t a (Query d) w e f g k = stops-query t a w (λ p z. omega (arith, g p z)) d e (k (omega arith) (f .whole) t)
-  stops-step t a End w e f g k = stops-end t a _ (ap (numberFor l t a) e)
-  stops-step t a (Refused x) w e f g k = stops-end t a _ (ap (numberFor l t a) e)
+  stops-step t a (Of b) w e f g k = stops-item t a w (λ p z. omega (arith, g p z)) b e (k (omega arith) (f .whole))
+  stops-step t a End w e f g k = stops-end t a _ (ap (itemNumber c t l a) e)
+  stops-step t a (Refused x) w e f g k = stops-end t a _ (ap (itemNumber c t l a) e)
 
   stops : (n a : ℕ) (t : Table) → length l - a < n → Loading t (walkFrom n l a)
   unfolding walkFrom
@@ -157,7 +143,7 @@ module _ (l : List ℕ) where
   none-at-length : after-settings ≤ length l → (t : Table) → numberIn t (length l) ≡ 0
   none-at-length h t =
       let e = item-end l (length l) (omega arith) (omega arith) in
-      ap (numberFor l t (length l)) (subst (λ (m : List ℕ). itemAt m (length l) ≡ End) (take-length l) e)
+      ap (itemNumber c t l (length l)) (subst (λ (m : List ℕ). itemAt m (length l) ≡ End) (take-length l) e)
 
   -- ---- the settings are accepted
   loads : Loading (fresh c) (items l)

@@ -21,16 +21,17 @@ use Rattle.listing.specs.Order.{before, insert, ordered}
 use Rattle.listing.specs.Listing.{order, listed}
 use Rattle.blur.specs.Blur.{step, plusStep, minusStep, pass, passes, massAfter, valueAfter}
 use Rattle.filter.specs.Answer.{weighted, meets, codeBy, valueBy}
-use Rattle.reader.specs.Bytes.{wordAt, signed}
-use Rattle.reader.specs.Kinds.{kindOf}
+use Rattle.reader.specs.Bytes.{little, signed, numbersIn}
+use Rattle.reader.specs.Kinds.{kindIn, total}
 use Rattle.reader.specs.Items.{formRefusal, itemAt}
+use Rattle.reader.specs.Content.{saidAt}
 use Rattle.reader.specs.Walk.{walk, walkFrom}
 use Rattle.log.specs.Loading.{loadWalk, load}
 use Rattle.promises.specs.History.{capacity, run}
 use Rattle.promises.specs.Worked.{WorkedWays}
 
 pub worked-ways : WorkedWays
-unfolding floor remainder rounded sum over all tab collect word first allNear sumsToZero best spread weight corner lastOf points same keyAt hash home sequence sought count sparse finding rows whole goodKey goodPair indexed sound setPair append raise pour news parsed shares refusal ranged fits fresh freshRefusal afterFresh enterAll callRefusal enter mergeRefusal afterMerge before insert ordered order listed step plusStep minusStep pass passes massAfter valueAfter weighted meets codeBy valueBy wordAt signed kindOf formRefusal itemAt walk walkFrom loadWalk load capacity run
+unfolding floor remainder rounded sum over all tab collect word first allNear sumsToZero best spread weight corner lastOf points same keyAt hash home sequence sought count sparse finding rows whole goodKey goodPair indexed sound setPair append raise pour news parsed shares refusal ranged fits fresh freshRefusal afterFresh enterAll callRefusal enter mergeRefusal afterMerge before insert ordered order listed step plusStep minusStep pass passes massAfter valueAfter weighted meets codeBy valueBy little signed numbersIn kindIn total formRefusal itemAt saidAt walk walkFrom loadWalk load capacity run
 worked-ways = record {
   log-way = record { begun = (refl, refl, refl); points = refl; answered = refl };
   list-way = record { begun = refl; points = refl; answered = refl };

@@ -4,7 +4,7 @@
 use mathlib.Core.Path.{_≡_}
 use mathlib.Core.Bool.{Bool}
 use mathlib.Core.List.{List}
-use Prim.Native.Nat.{ℕ, suc, _<_}
+use Prim.Native.Nat.{ℕ, suc}
 use lib.IntN.{ℤ}
 use denote.Ref.{RefT}
 use Rattle.table.specs.declared.Head.{Head}
@@ -19,7 +19,10 @@ use Rattle.filter.specs.Inner.{ReplyIs, RepliesAre}
 use Rattle.reader.specs.declared.Reader.{Reader}
 use Rattle.reader.specs.declared.items.Item.{Item}
 use Rattle.reader.specs.declared.items.Found.{Found}
+use Rattle.reader.specs.declared.kinds.Kind.{Kind}
+use Rattle.reader.specs.declared.kinds.Meaning.{Meaning}
 use Rattle.reader.specs.Items.{foundAt}
+use Rattle.reader.specs.Inner.{Says}
 use Rattle.reader.specs.Reader.{here, movedOn}
 use Rattle.log.specs.Loading.{load, Loads}
 use Rattle.text.specs.Text.{Written}
@@ -122,7 +125,7 @@ EqualOnly = (A : Type 0) (x : A) → Only (λ (r : A). r ≡ x)
 
 -- the others say more parts.
 pub record InnerOnly : Type 0 where
-  pub two-bytes-at : (x : ℕ) → Only (λ (r : ℕ). (r ≡ x) × (r < 65536))
+  pub content-at : (l : List ℕ) (a : ℕ) (k : Kind) (numbers : List ℤ) → Only (λ (r : Meaning × List ℤ). Says l a k numbers (r .0) (r .1))
   pub enclose : (d S : ℕ) (x : List ℤ) → Only (λ (r : List ℕ × List ℤ). Encloses d S x (r .0) (r .1))
   pub add-row : (t : Table) → Only (λ (r : ℕ × List ℤ × List ℤ × List ℕ). Holds t (r .0) (r .1) (r .2) (r .3))
   pub enter-one : (c : Settings) (x : ℕ) (t : Table) → Only (AnswerAllows c x t)

@@ -7,16 +7,13 @@ use lib.Dec.{T}
 use lib.ListN.{length}
 use Rattle.lattice.specs.Refusals.{settings-out-of-range, kind-not-listed, settings-misplaced, other-dimension, body-cut, program-limit}
 use Rattle.table.specs.Table.{Table}
-use Rattle.table.specs.Reading.{readingAt, refusal}
 use Rattle.table.specs.Calls.{enterAll, fresh, freshRefusal}
 use Rattle.table.specs.Sound.{Ranged}
 use Rattle.reader.specs.Bytes.{byteAt}
-use Rattle.reader.specs.Kinds.{kindOf, bodyLength, isListed, isSettings, ofDimension}
+use Rattle.reader.specs.Kinds.{kindOf, bodyLength, isListed, placed, ofDimension}
 use Rattle.reader.specs.declared.kinds.Kind.{Kind}
-use Rattle.reader.specs.declared.items.Item.{Item}
-use Rattle.reader.specs.declared.items.Item.the-variants.{Reading, Query, End, Refused}
-use Rattle.reader.specs.Items.{settingsOf, placed, itemAt, numberOf, valuesOf}
-use Rattle.log.specs.Loading.{Load, notStarted, load}
+use Rattle.reader.specs.Items.{settingsOf, itemAt, numberOf}
+use Rattle.log.specs.Loading.{Load, notStarted, itemNumber, load}
 use Rattle.reader.specs.Walk.{items, Place, before}
 use Rattle.log.specs.Theorems.{tableOf}
 use Rattle.report.specs.Report.{most-bytes, most-log-capacity, refusedLine, tableText, report}
@@ -26,24 +23,17 @@ use Rattle.promises.specs.Refusals.{Not}
 pub record ItemRefused (l : List ℕ) (a : ℕ) (k : Kind) : Type 0 where
   pub twelve : numberOf (itemAt l a) ≡ kind-not-listed ↔ (a < length l) × Not (T (isListed k))
   pub thirteen : numberOf (itemAt l a) ≡ settings-misplaced
-      ↔ ((a < length l) × T (isListed k) × Not (T (placed (isSettings k) a))) ⊎ ((length l ≡ 0) × (a ≡ 0))
-  pub fourteen : numberOf (itemAt l a) ≡ other-dimension ↔ (a < length l) × T (isListed k) × T (placed (isSettings k) a) × Not (T (ofDimension (settingsOf l .d) k))
+      ↔ ((a < length l) × T (isListed k) × Not (T (placed k a))) ⊎ ((length l ≡ 0) × (a ≡ 0))
+  pub fourteen : numberOf (itemAt l a) ≡ other-dimension ↔ (a < length l) × T (isListed k) × T (placed k a) × Not (T (ofDimension (settingsOf l .d) k))
   pub fifteen : numberOf (itemAt l a) ≡ body-cut
-      ↔ (a < length l) × T (isListed k) × T (placed (isSettings k) a) × T (ofDimension (settingsOf l .d) k) × (length l < suc a + bodyLength k)
+      ↔ (a < length l) × T (isListed k) × T (placed k a) × T (ofDimension (settingsOf l .d) k) × (length l < suc a + bodyLength k)
   pub none : numberOf (itemAt l a) ≡ 0
-      ↔ ((a < length l) × T (isListed k) × T (placed (isSettings k) a) × T (ofDimension (settingsOf l .d) k) × (suc a + bodyLength k ≤ length l)) ⊎ ((length l ≤ a) × (0 < a))
+      ↔ ((a < length l) × T (isListed k) × T (placed k a) × T (ofDimension (settingsOf l .d) k) × (suc a + bodyLength k ≤ length l)) ⊎ ((length l ≤ a) × (0 < a))
 
--- the number of the item at an offset after the settings, where the table t holds the readings before it: its form's, or a reading's own; "a query's
+-- the number of the item at an offset after the settings, where the table holds the readings before it: its form's, or a reading's own; "a query's
 -- 4 and 5 come only in its answer"
-abbrev pub numberFor : List ℕ → Table → ℕ → Item → ℕ
-numberFor l t a (Item.Settings d S C) = settings-misplaced
-numberFor l t a (Reading d) = refusal (settingsOf l) t (readingAt d (valuesOf l a (Reading d)) 0)
-numberFor l t a (Query d) = 0
-numberFor l t a End = 0
-numberFor l t a (Refused x) = x
-
 abbrev pub numberAt : List ℕ → ℕ → ℕ
-numberAt l a = numberFor l (tableOf l (before a (items l))) a (itemAt l a)
+numberAt l a = itemNumber (settingsOf l) (tableOf l (before a (items l))) l a (itemAt l a)
 
 -- "Loading … stops at the first refusal; the table then holds exactly the readings before that place." "A log taken whole answers 0 and its length."
 pub record LoadStops (l : List ℕ) (o : Load) : Type 0 where

@@ -1,5 +1,5 @@
 -- How long a report can be: a bound on each kind of line, on the lines of a table, and on the whole.
-use mathlib.Core.Path.{_≡_, refl, subst, sym}
+use mathlib.Core.Path.{_≡_, refl, ap, subst, sym}
 use mathlib.Core.Bool.{Bool, true, false, cond}
 use mathlib.Core.List.{List, [], _∷_, _++_}
 use Prim.Native.Nat.{ℕ, zero, suc, _*_, _≤_}
@@ -16,12 +16,13 @@ use Rattle.table.specs.Calls.{fresh}
 use Rattle.listing.specs.Listing.{order}
 use Rattle.filter.specs.Answer.{code, answer}
 use Rattle.text.proofs.Theorems.{line-fits}
-use Rattle.reader.specs.Items.{settingsOf}
-use Rattle.reader.specs.Walk.{Walk, reads, asks, ends, after-settings, walk, queries}
+use Rattle.reader.specs.Items.{after-settings, settingsOf}
+use Rattle.reader.specs.Content.{Said, reads, asks, refuses}
+use Rattle.reader.specs.Walk.{Walk, then, ends, walk, queriesIn, queries}
 use Rattle.log.specs.Loading.{load}
 use Rattle.reader.proofs.Walking.{query-count}
 use Rattle.log.proofs.Leaving.{load-settings, load-fine}
-use Rattle.report.specs.Report.{most-bytes, most-log-capacity, head-word, point-word, answer-word, refused-word, headLine, pointNumbers, pointLine, pointLines, answerLine, perQuery, tableText, refusedLine, loadedText, settingsRefusal, settledText, report, room}
+use Rattle.report.specs.Report.{most-bytes, most-log-capacity, head-word, point-word, answer-word, refused-word, headLine, pointNumbers, pointLine, pointLines, answerLine, queryText, perQuery, tableText, refusedLine, loadedText, settingsRefusal, settledText, report, room}
 use Rattle.report.specs.Inner.{Printable}
 use Rattle.report.proofs.Settling.{few-points}
 use Rattle.report.proofs.Numbers.{numbers-size}
@@ -50,10 +51,14 @@ points-fit : (c : Settings) (t : Table) → c .d ≤ most-d → length (pointLin
 unfolding pointLines
 points-fit c t h = collect-fits (t .m) 182 (λ j. pointLine c t (getD (order c t) j 0)) (λ j. point-fits c t (getD (order c t) j 0) h)
 
+query-fits : (text : List ℤ → List ℕ) (b : ℕ) → ((q : List ℤ) → length (text q) ≤ b) → (s : Said) → length (queryText text s) ≤ b * length (queriesIn s)
+query-fits text b h (reads r) = omega arith
+query-fits text b h (asks q) = omega (arith, h q)
+query-fits text b h (refuses x) = omega arith
+
 queries-fit : (text : List ℤ → List ℕ) (b : ℕ) → ((q : List ℤ) → length (text q) ≤ b) → (w : Walk) → length (perQuery text w) ≤ b * length (queries w)
 unfolding perQuery queries
-queries-fit text b h (reads a r w) = queries-fit text b h w
-queries-fit text b h (asks a q w) = omega (arith, length-append (text q) (perQuery text w), h q, queries-fit text b h w)
+queries-fit text b h (then a s w) = omega (arith, length-append (queryText text s) (perQuery text w), ap (λ (n : ℕ). b * n) (length-append (queriesIn s) (queries w)), query-fits text b h s, queries-fit text b h w)
 queries-fit text b h (ends x a) = omega arith
 
 -- ---- a table

@@ -8,7 +8,7 @@ use native.Mathlib.Numerals.{add-one}
 use native.Mathlib.Omega.{arith}
 use lib.IntN.{ℤ, pos, negℤ}
 use lib.ListN.{length, set, take, replicate, length-append}
-use lib.Seq.{take-at}
+use lib.Seq.{set-at, take-at}
 use mir.Syntax.{w8, w32, w64}
 use mir.Val.{toZ, ofZ, Fits, SFits}
 use mir.ValLaws.{toZ-pos}
@@ -24,7 +24,6 @@ use Rattle.table.specs.Table.{Settings, Table, key, mass, value, whole}
 use Rattle.table.specs.declared.Head.{Head}
 use Rattle.table.proofs.Lists.{tab-snoc}
 use Rattle.table.proofs.Good.{whole-size}
-use Rattle.reader.proofs.Filling.{store}
 use Rattle.text.specs.Text.{line, Written}
 use Rattle.report.specs.Report.{most-bytes, pointNumbers}
 use Rattle.report.specs.Inner.{most-numbers, padded, HeadRoom, StoredIn}
@@ -56,6 +55,10 @@ head-numbers h size r f =
 -- ---- an array of zeros that is filled from the front
 abbrev pub filled : List ℤ → List ℤ
 filled l = l ++ replicate (most-numbers - length l) (pos 0)
+
+-- one more number in the first of the places that are left
+store : (l : List ℤ) (n left : ℕ) (v : ℤ) → length l ≡ n → set (l ++ replicate (suc left) (pos 0)) n v ≡ (l ++ (v ∷ [])) ++ replicate left (pos 0)
+store l n left v e = set-at l (pos 0) (replicate left (pos 0)) v n e ∙ sym (append-assoc l (v ∷ []) (replicate left (pos 0)))
 
 stored : {a : List ℤ} {v w : ℤ} (l : List ℤ) (n : ℕ) → a ≡ filled l → v ≡ w → length l ≡ n → n < most-numbers → set a n v ≡ filled (l ++ (w ∷ []))
 stored {a} {v} {w} l n e k s h =

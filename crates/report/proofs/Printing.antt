@@ -15,8 +15,8 @@ use Rattle.table.specs.Heads.{settings, table}
 use Rattle.table.specs.Sound.{Fine}
 use Rattle.text.specs.Text.{Written}
 use Rattle.text.proofs.Lines.{written-then, written-room}
-use Rattle.reader.specs.Items.{settingsOf}
-use Rattle.reader.specs.Walk.{walk, after-settings}
+use Rattle.reader.specs.Items.{after-settings, settingsOf}
+use Rattle.reader.specs.Walk.{walk}
 use Rattle.log.specs.Loading.{Load, load, Loads}
 use Rattle.table.proofs.Calls.{answered}
 use Rattle.log.proofs.Leaving.{load-offset, load-settings, load-fine}

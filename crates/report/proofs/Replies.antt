@@ -2,13 +2,12 @@
 use mathlib.Core.Path.{_≡_, refl, sym, ap, ap₂, subst, fun-ext, _∙_}
 use mathlib.Core.List.{List, [], _∷_, _++_, append-assoc, append-nil}
 use Prim.Native.Nat.{ℕ, suc, _+_, _*_, _-_, _<_, _≤_}
-use native.Mathlib.Numerals.{add-one}
 use native.Mathlib.Omega.{arith}
 use lib.IntN.{ℤ}
-use lib.ListN.{length, take, length-append}
+use lib.ListN.{length, take, drop, length-append}
 use lib.Seq.{take-at}
 use types.Run.{miss}
-use Rattle.whole.proofs.Lists.{length-tab}
+use Rattle.whole.specs.Lists.{All}
 use Rattle.table.specs.Table.{Settings, Table}
 use Rattle.blur.specs.Blur.{blurredMass, blurredValue}
 use Rattle.blur.specs.Sheet.{blurredSheet, withSums}
@@ -17,37 +16,55 @@ use Rattle.blur.proofs.Sheets.{sheet-length}
 use Rattle.filter.specs.Answer.{code, answer}
 use Rattle.filter.specs.Inner.{ReplyIs}
 use Rattle.filter.proofs.Answers.{smooth, code-same, value-same}
-use Rattle.reader.specs.Bytes.{signedAt}
-use Rattle.reader.specs.Items.{itemAt, widthOf}
-use Rattle.reader.specs.Walk.{Walk, itemThen, after-settings, walk}
-use Rattle.reader.specs.Inner.{Inside, padded}
+use Rattle.reader.specs.Kinds.{rowOf}
+use Rattle.reader.specs.Items.{after-settings, settingsOf, itemAt, valuesOf, widthOf}
+use Rattle.reader.specs.Content.{Said, asks, saidBy, saidAt}
+use Rattle.reader.specs.Walk.{Walk, itemThen, walk, queriesIn}
+use Rattle.reader.specs.Inner.{Says}
+use Rattle.reader.specs.declared.kinds.Kind.{Kind}
+use Rattle.reader.specs.declared.kinds.Meaning.{Meaning}
+use Rattle.reader.specs.declared.kinds.Meaning.the-variants.{Reads, Asks, Refuses}
 use Rattle.reader.specs.declared.items.Item.{Item}
-use Rattle.reader.specs.declared.items.Item.the-variants.{Reading, Query, End, Refused}
-use Rattle.reader.proofs.Forms.{Later, Formed, of-form}
-use Rattle.reader.proofs.Arms.{ItemIn}
+use Rattle.reader.specs.declared.items.Item.the-variants.{Of, End, Refused}
+use Rattle.reader.proofs.Forms.{Stood, Formed, of-form}
+use Rattle.reader.proofs.Arms.{ItemIn, MeaningIn}
 use Rattle.reader.proofs.Walking.{walk-step}
-use Rattle.reader.proofs.Filling.{partOf, part-is}
+use Rattle.reader.proofs.Filling.{part-all}
+use Rattle.reader.proofs.Contents.{said-by, query-sized}
 use Rattle.text.specs.Text.{Written}
 use Rattle.text.proofs.Lines.{written-nothing, written-then, written-room}
-use Rattle.report.specs.Report.{answerLine, answerLines, perQuery}
+use Rattle.report.specs.Report.{answerLine, answerLines, queryText, perQuery}
 use Rattle.report.specs.Inner.{replyLine, replyText, ReplyRoom, RepliesRoom, AnswersRoom}
 
 -- ---- one item
-module _ {c : Settings} {t : Table} {l : List ℕ} {a : ℕ} {i : Item} {at size : ℕ} (R : ReplyRoom c t l a i at size) {d : ℕ} (e : i ≡ Query d) where
-  pub a-query : Later l a d (d + 1)
-  a-query = subst (Formed l a) e (of-form l a i (R .item-is))
+module _ {c : Settings} {t : Table} {l : List ℕ} {a : ℕ} {i : Item} {at size : ℕ} (R : ReplyRoom c t l a i at size) {k : Kind} (e : i ≡ Of k) where
+  pub an-item : Stood l a k
+  an-item = subst (Formed l a) e (of-form l a i (R .item-is))
 
-  pub query-inside : Inside l (a + 1) (d + 1)
-  query-inside = let f = a-query in record { few = omega arith; whole = omega arith }
+  abbrev values : List ℤ
+  values = valuesOf l a (Of k)
 
-  module _ {numbers : List ℤ} (p : numbers ≡ padded l (a + 1) (d + 1)) where
-    pub query-size : length (partOf (d + 1) numbers) ≡ suc (c .d)
-    query-size = ap length (part-is l a (d + 1) p) ∙ length-tab (d + 1) (λ i. signedAt l (suc a + 4 * i)) ∙ add-one d
-        ∙ ap suc (a-query .d-is ∙ ap (λ (b : Settings). b .d) (sym (R .settings-are)))
+  -- where it means a query
+  module _ {old ns : List ℤ} {m : Meaning} (p : Says l a k old m ns) (y : m ≡ Asks) where
+    said-is : saidAt l a k ≡ asks values
+    said-is = sym (said-by l a k (sym y ∙ p .means-is))
 
-    module _ {value : ℤ} {code : ℕ} (r : ReplyIs c t (partOf (d + 1) numbers) value code) where
+    asked-size : length values ≡ suc (c .d)
+    asked-size = subst (λ (s : Said). All (λ q. length q ≡ suc (settingsOf l .d)) (queriesIn s)) said-is (query-sized l a k an-item) .0
+        ∙ ap (λ (b : Settings). suc (b .d)) (sym (R .settings-are))
+
+    abbrev part : List ℤ
+    part = take (c .d + 1 - 0) (drop 0 ns)
+
+    part-of : part ≡ values
+    part-of = ap (λ (ns : List ℤ). take (c .d + 1 - 0) (drop 0 ns)) (p .after-is) ∙ part-all old values (c .d + 1) (omega (arith, asked-size))
+
+    pub query-size : length part ≡ suc (c .d)
+    query-size = ap length part-of ∙ asked-size
+
+    module _ {value : ℤ} {code : ℕ} (r : ReplyIs c t part value code) where
       line-is : answerLine value code ≡ replyText c t l a i
-      line-is = ap₂ answerLine (r .value-is) (r .code-is) ∙ ap (replyLine c t) (part-is l a (d + 1) p) ∙ ap (replyText c t l a) (sym e)
+      line-is = ap₂ answerLine (r .value-is) (r .code-is) ∙ ap (replyLine c t) part-of ∙ ap (queryText (replyLine c t)) (sym said-is) ∙ ap (replyText c t l a) (sym e)
 
       pub query-room : at + length (answerLine value code) ≤ size
       query-room = rw line-is (R .space)
@@ -56,32 +73,33 @@ module _ {c : Settings} {t : Table} {l : List ℕ} {a : ℕ} {i : Item} {at size
       query-done w = rw line-is at w
 
 -- an item that is no query adds nothing
-abbrev NoQuery : Item → Type 0
-NoQuery = ItemIn (0 ∷ 1 ∷ 3 ∷ 4 ∷ [])
+no-text : (f : List ℤ → List ℕ) (d : ℕ) (ns : List ℤ) (m : Meaning) → MeaningIn (0 ∷ 2 ∷ []) m → [] ≡ queryText f (saidBy m d ns)
+no-text f d ns (Reads from) h = refl
+no-text f d ns Asks h = absurd (miss (0 ∷ 2 ∷ []) 1 tt h)
+no-text f d ns (Refuses x) h = refl
 
-pub no-query : (c : Settings) (t : Table) (l : List ℕ) (a : ℕ) (i : Item) (o : List ℕ) (at : ℕ) → NoQuery i → Written o at (replyText c t l a i) at o
-no-query c t l a (Item.Settings d S C) o at h = written-nothing o at
-no-query c t l a (Reading d) o at h = written-nothing o at
-no-query c t l a (Query d) o at h = absurd (miss (0 ∷ 1 ∷ 3 ∷ 4 ∷ []) 2 tt h)
-no-query c t l a End o at h = written-nothing o at
-no-query c t l a (Refused x) o at h = written-nothing o at
+pub no-query : (c : Settings) (t : Table) (l : List ℕ) (a : ℕ) (i : Item) (k : Kind) (o : List ℕ) (at : ℕ) → i ≡ Of k → (m : Meaning) → m ≡ rowOf (k .family) .means → MeaningIn (0 ∷ 2 ∷ []) m → Written o at (replyText c t l a i) at o
+no-query c t l a i k o at e m f h =
+    subst (λ (x : List ℕ). Written o at x at o)
+    (no-text (replyLine c t) (k .d) (valuesOf l a (Of k)) m h ∙ ap (queryText (replyLine c t)) (said-by l a k f) ∙ ap (replyText c t l a) (sym e)) (written-nothing o at)
+
+pub no-item : (c : Settings) (t : Table) (l : List ℕ) (a : ℕ) (i : Item) (o : List ℕ) (at : ℕ) → ItemIn (1 ∷ 2 ∷ []) i → Written o at (replyText c t l a i) at o
+no-item c t l a (Of k) o at h = absurd (miss (1 ∷ 2 ∷ []) 0 tt h)
+no-item c t l a End o at h = written-nothing o at
+no-item c t l a (Refused x) o at h = written-nothing o at
 
 -- ---- the items in turn
 module _ (c : Settings) (t : Table) (l : List ℕ) where
   step-text : (a : ℕ) (i : Item) (w : Walk) → 0 < a → (widthOf i ≡ 0 → ⊥) → Formed l a i
       → perQuery (replyLine c t) (itemThen l a i w) ≡ replyText c t l a i ++ perQuery (replyLine c t) w
   unfolding perQuery
-  step-text a (Item.Settings d S C) w h n f = absurd (omega arith)
-  step-text a (Reading d) w h n f = refl
-  step-text a (Query d) w h n f = refl
+  step-text a (Of k) w h n f = refl
   step-text a End w h n f = absurd (n refl)
   step-text a (Refused x) w h n f = absurd (n refl)
 
   last-text : (a : ℕ) (i : Item) (w : Walk) → widthOf i ≡ 0 → perQuery (replyLine c t) (itemThen l a i w) ≡ []
   unfolding perQuery
-  last-text a (Item.Settings d S C) w z = refl
-  last-text a (Reading d) w z = absurd (omega arith)
-  last-text a (Query d) w z = absurd (omega arith)
+  last-text a (Of k) w z = absurd (omega arith)
   last-text a End w z = refl
   last-text a (Refused x) w z = refl
 

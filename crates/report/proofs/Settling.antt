@@ -15,9 +15,9 @@ use Rattle.table.proofs.Soundness.{to-ranged}
 use Rattle.reader.specs.Items.{settingsOf, itemAt, numberOf}
 use Rattle.log.specs.Loading.{orElse}
 use Rattle.reader.specs.declared.items.Item.{Item}
-use Rattle.reader.proofs.Forms.{AtStart, Formed, of-form}
+use Rattle.reader.specs.declared.settings.Asked.{Asked}
 use Rattle.log.proofs.Leaving.{either-zero}
-use Rattle.log.proofs.Starting.{NoStart, no-start, or-first}
+use Rattle.log.proofs.Starting.{of-asked, or-first}
 use Rattle.report.specs.declared.opening.Opening.{Opening}
 use Rattle.report.specs.Report.{most-log-capacity, settingsRefusal}
 use Rattle.report.specs.Inner.{Opens}
@@ -46,51 +46,41 @@ opens-refused l x o e z p =
     let no : o .number ≡ 0 → ⊥ = λ y. z (sym n ∙ y) in
     record { number-is = n ∙ sym e; d-is = λ y. absurd (no y); capacity-is = λ y. absurd (no y); ranged = λ y. absurd (no y); few = λ y. absurd (no y) }
 
-module _ (l : List ℕ) (i : Item) (e : i ≡ itemAt l 0) where
-  form : Formed l 0 i
-  form = of-form l 0 i e
-
-  refusal-is : settingsRefusal l ≡ orElse (numberOf i) (own (settingsOf l))
+module _ (l : List ℕ) (i : Item) (e : i ≡ itemAt l 0) {x : ℕ} (n : x ≡ numberOf i) where
+  refusal-is : settingsRefusal l ≡ orElse x (own (settingsOf l))
   unfolding settingsRefusal
-  refusal-is = ap (λ (i : Item). orElse (numberOf i) (own (settingsOf l))) (sym e)
+  refusal-is = ap (λ (x : ℕ). orElse x (own (settingsOf l))) (ap numberOf (sym e) ∙ sym n)
 
-  pub opens-other : {x : ℕ} {o : Opening} → NoStart i → x ≡ numberOf i → o ≡ refused x → Opens l o
-  opens-other {x} {o} s n p =
-      let z = no-start l i form s in
-      opens-refused l x o (refusal-is ∙ or-first (numberOf i) (own (settingsOf l)) z ∙ sym n) (λ y. z (sym n ∙ y)) p
+  pub opens-other : {o : Opening} → (x ≡ 0 → ⊥) → o ≡ refused x → Opens l o
+  opens-other {o} z p = opens-refused l x o (refusal-is ∙ or-first x (own (settingsOf l)) z) z p
 
   -- ---- the settings are there
-  module _ {d S C : ℕ} (s : i ≡ Item.Settings d S C) where
+  module _ (z : x ≡ 0) (a : Asked) (s : a ≡ record { d = settingsOf l .d; fineness = settingsOf l .S; capacity = settingsOf l .C }) where
     abbrev c : Settings
-    c = record { d = d; S = S; C = C }
-
-    at-start : AtStart l 0 d S C
-    at-start = subst (Formed l 0) s form
+    c = of-asked a
 
     same : c ≡ settingsOf l
-    same = let f = at-start in λ j. record { d = f .d-is j; S = f .S-is j; C = f .C-is j }
+    same = ap of-asked s
 
     own-is : settingsRefusal l ≡ own c
-    own-is = refusal-is ∙ ap (λ (i : Item). orElse (numberOf i) (own (settingsOf l))) s ∙ ap own (sym same)
+    own-is = refusal-is ∙ ap (λ (x : ℕ). orElse x (own (settingsOf l))) z ∙ ap own (sym same)
 
     module _ {t : Bool} (r : t ≡ ranged c) where
       pub opens-outside : {o : Opening} → not t ≡ true → o ≡ refused settings-out-of-range → Opens l o
       opens-outside {o} n p =
           opens-refused l settings-out-of-range o (own-is ∙ first-at (ranged c) settings-out-of-range _ (failed (ranged c) r n)) (λ y. omega arith) p
 
-      pub opens-wide : {o : Opening} → not t ≡ false → most-log-capacity < C → o ≡ refused program-limit → Opens l o
+      pub opens-wide : {o : Opening} → not t ≡ false → most-log-capacity < a .capacity → o ≡ refused program-limit → Opens l o
       unfolding first
       opens-wide {o} n h p =
-          opens-refused l program-limit o (own-is ∙ rw (passed (ranged c) r n, lt-leb C most-log-capacity h) refl) (λ y. omega arith) p
+          opens-refused l program-limit o (own-is ∙ rw (passed (ranged c) r n, lt-leb (a .capacity) most-log-capacity h) refl) (λ y. omega arith) p
 
-      pub opens-taken : not t ≡ false → C ≤ most-log-capacity → Opens l (record { number = 0; d = d; capacity = C })
+      pub opens-taken : not t ≡ false → a .capacity ≤ most-log-capacity → Opens l (record { number = 0; d = a .d; capacity = a .capacity })
       unfolding first
-      opens-taken n h =
-          let f = at-start in
-          record {
-            number-is = sym (own-is ∙ rw (passed (ranged c) r n, le-leb C most-log-capacity h) refl);
-            d-is = λ y. f .d-is;
-            capacity-is = λ y. f .C-is;
-            ranged = λ y. subst Ranged same (to-ranged c (T-of (passed (ranged c) r n)));
-            few = λ y. omega (arith, f .C-is);
-          }
+      opens-taken n h = record {
+        number-is = sym (own-is ∙ rw (passed (ranged c) r n, le-leb (a .capacity) most-log-capacity h) refl);
+        d-is = λ y. ap (λ (c : Settings). c .d) same;
+        capacity-is = λ y. ap (λ (c : Settings). c .C) same;
+        ranged = λ y. subst Ranged same (to-ranged c (T-of (passed (ranged c) r n)));
+        few = λ y. omega (arith, ap (λ (c : Settings). c .C) same);
+      }

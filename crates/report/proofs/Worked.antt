@@ -19,9 +19,10 @@ use Rattle.listing.specs.Order.{before, insert, ordered}
 use Rattle.listing.specs.Listing.{order}
 use Rattle.blur.specs.Blur.{step, plusStep, minusStep, pass, passes, massAfter, valueAfter}
 use Rattle.filter.specs.Answer.{weighted, meets, codeBy, valueBy}
-use Rattle.reader.specs.Bytes.{wordAt, signed}
-use Rattle.reader.specs.Kinds.{kindOf}
+use Rattle.reader.specs.Bytes.{little, signed, numbersIn}
+use Rattle.reader.specs.Kinds.{kindIn, total}
 use Rattle.reader.specs.Items.{formRefusal, itemAt}
+use Rattle.reader.specs.Content.{saidAt}
 use Rattle.reader.specs.Walk.{walk, walkFrom}
 use Rattle.log.specs.Loading.{loadWalk, load}
 use Rattle.text.specs.Text.{digitsIn, decimal, spaced, line}
@@ -29,5 +30,5 @@ use Rattle.report.specs.Report.{pointLines, perQuery, settingsRefusal, r
 use Rattle.report.specs.Worked.{ReportCases}
 
 pub report-cases : ReportCases
-unfolding floor remainder rounded sum over all tab collect word first allNear sumsToZero best spread weight corner lastOf points same keyAt hash home sequence sought whole setPair append raise pour news shares refusal ranged fits fresh freshRefusal before insert ordered order step plusStep minusStep pass passes massAfter valueAfter weighted meets codeBy valueBy wordAt signed kindOf formRefusal itemAt walk walkFrom loadWalk load digitsIn decimal spaced line pointLines perQuery settingsRefusal report
+unfolding floor remainder rounded sum over all tab collect word first allNear sumsToZero best spread weight corner lastOf points same keyAt hash home sequence sought whole setPair append raise pour news shares refusal ranged fits fresh freshRefusal before insert ordered order step plusStep minusStep pass passes massAfter valueAfter weighted meets codeBy valueBy little signed numbersIn kindIn total formRefusal itemAt saidAt walk walkFrom loadWalk load digitsIn decimal spaced line pointLines perQuery settingsRefusal report
 report-cases = record { five-lines = refl; queries-first = refl; cut-short = refl; too-wide = refl }

@@ -13,13 +13,14 @@ use Rattle.blur.specs.Blur.{masses, values}
 use Rattle.filter.specs.Answer.{codeBy, valueBy}
 use Rattle.filter.specs.Inner.{Smooth}
 use Rattle.listing.specs.Listing.{order}
-use Rattle.reader.specs.Items.{settingsOf, itemAt, valuesOf}
+use Rattle.reader.specs.Items.{settingsOf, itemAt}
+use Rattle.reader.specs.Content.{saidAt}
 use Rattle.reader.specs.Walk.{items}
 use Rattle.log.specs.Loading.{load}
 use Rattle.reader.specs.declared.items.Item.{Item}
-use Rattle.reader.specs.declared.items.Item.the-variants.{Reading, Query, End, Refused}
+use Rattle.reader.specs.declared.items.Item.the-variants.{Of, End, Refused}
 use Rattle.report.specs.declared.opening.Opening.{Opening}
-use Rattle.report.specs.Report.{most-bytes, most-log-capacity, room, headLine, pointNumbers, pointLine, pointLines, answerLine, answerLines, perQuery, tableText, settingsRefusal, refusedLine, loadedText}
+use Rattle.report.specs.Report.{most-bytes, most-log-capacity, room, headLine, pointNumbers, pointLine, pointLines, answerLine, answerLines, queryText, perQuery, tableText, settingsRefusal, refusedLine, loadedText}
 
 -- as many numbers as a line has at most: six coordinates, a mass and a value sum
 abbrev pub most-numbers : ℕ
@@ -78,9 +79,7 @@ replyLine c t q = answerLine (valueBy c t (masses c t) (values c t) q) (codeBy c
 
 -- what an item adds to the text: the line of a query
 abbrev pub replyText : Settings → Table → List ℕ → ℕ → Item → List ℕ
-replyText c t l a (Item.Settings d S C) = []
-replyText c t l a (Reading d) = []
-replyText c t l a (Query d) = replyLine c t (valuesOf l a (Query d))
+replyText c t l a (Of k) = queryText (replyLine c t) (saidAt l a k)
 replyText c t l a End = []
 replyText c t l a (Refused x) = []
 

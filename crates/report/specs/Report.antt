@@ -13,7 +13,8 @@ use Rattle.table.specs.Calls.{ranged, fresh}
 use Rattle.listing.specs.Listing.{order}
 use Rattle.filter.specs.Answer.{code, answer}
 use Rattle.reader.specs.Items.{settingsOf, itemAt, numberOf}
-use Rattle.reader.specs.Walk.{Walk, reads, asks, ends, items}
+use Rattle.reader.specs.Content.{Said, reads, asks, refuses}
+use Rattle.reader.specs.Walk.{Walk, then, ends, items}
 use Rattle.log.specs.Loading.{Load, orElse, load}
 use Rattle.text.specs.Text.{line}
 
@@ -56,10 +57,15 @@ pointLines c t = collect (t .m) (λ j. pointLine c t (getD (order c t) j 0))
 abbrev pub answerLine : ℤ → ℕ → List ℕ
 answerLine value code = line answer-word (value ∷ pos code ∷ [])
 
+-- the text that an item adds: that of a query, and nothing for any other
+abbrev pub queryText : (List ℤ → List ℕ) → Said → List ℕ
+queryText text (reads r) = []
+queryText text (asks q) = text q
+queryText text (refuses x) = []
+
 -- a text for each query, in their order
 unfoldable pub perQuery : (List ℤ → List ℕ) → Walk → List ℕ
-perQuery text (reads a r w) = perQuery text w
-perQuery text (asks a q w) = text q ++ perQuery text w
+perQuery text (then a s w) = queryText text s ++ perQuery text w
 perQuery text (ends x a) = []
 
 -- the answers of a log, "over all readings": t is the table of the whole log

@@ -9,10 +9,12 @@ use crate::MOST_LOG_CAPACITY;
 use crate::lines::put_answer;
 use blur::blur;
 use filter::reply::reply_at;
-use reader::AFTER_SETTINGS;
-use reader::bytes::numbers_at;
+use reader::content::MOST_NUMBERS;
+use reader::content::content_at;
 use reader::items::Item;
+use reader::kinds::Meaning;
 use reader::read_at;
+use reader::settings::AFTER_SETTINGS;
 use table::Head;
 
 // One item: the line of a query, and nothing for a reading.
@@ -33,10 +35,14 @@ fn put_reply(
         Written (now (out .entry)) at (replyText (settings head) t (now (log .entry)) offset item) r (now (out .exit)))
         ⌝ }
 {
-    match item {
-        Item::Query(d) => {
-            let count = d + 1;
-            let numbers = numbers_at(log, offset + 1, count);
+    let Item::Of(kind) = item else {
+        return at;
+    };
+    let mut numbers = [0i32; MOST_NUMBERS];
+    let means = content_at(log, offset, kind, &mut numbers);
+    match means {
+        Meaning::Asks => {
+            let count = head.d + 1;
             let reply = reply_at(head, keys, index, sheet, &numbers[0..count]);
             put_answer(out, at, reply.value, reply.code)
         }

@@ -4,9 +4,9 @@ ghost use Rattle.report.specs.Inner.{Opens};
 use crate::MOST_LOG_CAPACITY;
 use lattice::refusals::PROGRAM_LIMIT;
 use lattice::refusals::SETTINGS_OUT_OF_RANGE;
-use reader::items::Item;
 use reader::items::number_of;
 use reader::read_at;
+use reader::settings::settings_of;
 use table::settings::in_range;
 
 // What a log's settings ask for, or the number by which they are refused.
@@ -32,23 +32,20 @@ pub fn opening_of(log: &[u8]) -> Opening
 {
     let first = read_at(log, 0);
     let item = first.item;
-    let Item::Settings {
-        d,
-        fineness,
-        capacity,
-    } = item
-    else {
-        return refused_opening(number_of(item));
-    };
-    if !in_range(d, fineness, capacity) {
+    let number = number_of(item);
+    if number != 0 {
+        return refused_opening(number);
+    }
+    let asked = settings_of(log);
+    if !in_range(asked.d, asked.fineness, asked.capacity) {
         return refused_opening(SETTINGS_OUT_OF_RANGE);
     }
-    if MOST_LOG_CAPACITY < capacity {
+    if MOST_LOG_CAPACITY < asked.capacity {
         return refused_opening(PROGRAM_LIMIT);
     }
     Opening {
         number: 0,
-        d,
-        capacity,
+        d: asked.d,
+        capacity: asked.capacity,
     }
 }

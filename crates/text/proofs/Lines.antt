@@ -1,36 +1,14 @@
 -- Texts written into a buffer, one after the other.
-use mathlib.Core.Path.{_≡_, refl, ap, ap₂, sym, _∙_}
-use mathlib.Core.List.{List, [], _∷_, _++_, append-assoc}
+use mathlib.Core.Path.{_≡_, refl, ap, sym, _∙_}
+use mathlib.Core.List.{List, [], _∷_, _++_}
 use Prim.Native.Nat.{ℕ, suc, _+_, _<_, _≤_}
 use native.Mathlib.Nat.{add-zero}
 use native.Mathlib.Numerals.{add-one}
 use native.Mathlib.Omega.{arith}
-use lib.ListN.{length, set, take, drop, length-append}
-use lib.Seq.{length-take-le, drop-drop, take-at, drop-at, set-split}
-use Rattle.whole.specs.Lists.{splice}
-use Rattle.whole.proofs.Lists.{length-splice, splice-none}
+use lib.ListN.{length, set, length-append}
+use lib.Seq.{set-split}
+use Rattle.whole.proofs.Lists.{length-splice, splice-none, splice-splice}
 use Rattle.text.specs.Text.{Written}
-
--- ---- a stretch put into a list, and another one after it
-module _ {A : Type 0} (o : List A) (a : ℕ) (v : List A) where
-  seam : a ≤ length o → length (take a o ++ v) ≡ a + length v
-  seam h = length-append (take a o) v ∙ ap (λ (n : ℕ). n + length v) (length-take-le a o h)
-
-  pub take-splice : a ≤ length o → take (a + length v) (splice o a v) ≡ take a o ++ v
-  take-splice h = rw (← append-assoc) (take-at (take a o ++ v) (drop (a + length v) o) (a + length v) (seam h))
-
-  pub drop-splice : a ≤ length o → drop (a + length v) (splice o a v) ≡ drop (a + length v) o
-  drop-splice h = rw (← append-assoc) (drop-at (take a o ++ v) (drop (a + length v) o) (a + length v) (seam h))
-
-  pub splice-splice : (w : List A) → a + length v + length w ≤ length o → splice (splice o a v) (a + length v) w ≡ splice o a (v ++ w)
-  splice-splice w h =
-      let k : a ≤ length o = omega arith in
-      let n : ℕ = a + length v in
-      let s : List A = splice o a v in
-      let rest : drop (n + length w) s ≡ drop (n + length w) o = sym (drop-drop (length w) n s) ∙ ap (drop (length w)) (drop-splice k) ∙ drop-drop (length w) n o in
-      let same : n + length w ≡ a + length (v ++ w) = omega (arith, length-append v w) in
-      ap₂ (λ (x y : List A). x ++ (w ++ y)) (take-splice k) rest ∙ append-assoc (take a o) v (w ++ drop (n + length w) o)
-      ∙ ap (λ (x : List A). take a o ++ x) (sym (append-assoc v w (drop (n + length w) o))) ∙ ap (λ (m : ℕ). take a o ++ ((v ++ w) ++ drop m o)) same
 
 -- ---- texts written one after the other
 pub written-nothing : (o : List ℕ) (a : ℕ) → Written o a [] a o

@@ -8,7 +8,7 @@ use native.Mathlib.Numerals.{add-one}
 use native.Mathlib.Decide.{ℕ-discrete}
 use native.Mathlib.Omega.{arith}
 use lib.ListN.{length, set, take, drop, getD, length-set, length-append, length-drop, drop-of-length-le, List·getD-append}
-use lib.Seq.{paste, paste-zero, paste-suc, take-all, drop-drop, length-take-le, getD-take, getD-drop, getD-append-add, getD-set-same, getD-set-other, ext-getD}
+use lib.Seq.{paste, paste-zero, paste-suc, take-all, take-at, drop-at, drop-drop, length-take-le, getD-take, getD-drop, getD-append-add, getD-set-same, getD-set-other, ext-getD}
 use borrow.Rule.Slice.PartMut.{putMid}
 use Rattle.whole.specs.Lists.{tab, collect, splice}
 
@@ -93,6 +93,27 @@ module _ {A : Type 0} where
   -- a stretch as long as the list is the list
   pub splice-whole : (l v : List A) → length v ≡ length l → splice l 0 v ≡ v
   splice-whole l v e = ap (λ (t : List A). v ++ t) (drop-of-length-le l {i = 0 + length v} (omega arith)) ∙ append-nil v
+
+  -- ---- a stretch put into a list, and another one after it
+  module _ (l : List A) (a : ℕ) (v : List A) where
+    seam : a ≤ length l → length (take a l ++ v) ≡ a + length v
+    seam h = length-append (take a l) v ∙ ap (λ (n : ℕ). n + length v) (length-take-le a l h)
+
+    take-splice : a ≤ length l → take (a + length v) (splice l a v) ≡ take a l ++ v
+    take-splice h = rw (← append-assoc) (take-at (take a l ++ v) (drop (a + length v) l) (a + length v) (seam h))
+
+    drop-splice : a ≤ length l → drop (a + length v) (splice l a v) ≡ drop (a + length v) l
+    drop-splice h = rw (← append-assoc) (drop-at (take a l ++ v) (drop (a + length v) l) (a + length v) (seam h))
+
+    pub splice-splice : (w : List A) → a + length v + length w ≤ length l → splice (splice l a v) (a + length v) w ≡ splice l a (v ++ w)
+    splice-splice w h =
+        let k : a ≤ length l = omega arith in
+        let n : ℕ = a + length v in
+        let s : List A = splice l a v in
+        let rest : drop (n + length w) s ≡ drop (n + length w) l = sym (drop-drop (length w) n s) ∙ ap (drop (length w)) (drop-splice k) ∙ drop-drop (length w) n l in
+        let same : n + length w ≡ a + length (v ++ w) = omega (arith, length-append v w) in
+        ap₂ (λ (x y : List A). x ++ (w ++ y)) (take-splice k) rest ∙ append-assoc (take a l) v (w ++ drop (n + length w) l)
+        ∙ ap (λ (x : List A). take a l ++ x) (sym (append-assoc v w (drop (n + length w) l))) ∙ ap (λ (m : ℕ). take a l ++ ((v ++ w) ++ drop m l)) same
 
   -- ---- a part that was lent, and has come back
   rest : (a n : ℕ) (l : List A) → drop (a + n - a) (drop a l) ≡ drop (a + n) l

@@ -10,10 +10,9 @@ const LEAST_ACCEPTED: u64 = 1_000;
 /// The greatest capacity and the greatest number of readings.
 const GREATEST_POINTS: usize = 8_192;
 const GREATEST_READINGS: usize = 4_096;
-/// The number that is proved never to come on a sound table.
-const NEVER: usize = 11;
 
-/// The refusal numbers that a call can answer. Each of them must be met in that very call.
+/// The refusal numbers that a call can answer. Each of them must be met in that very call. 11 is in none: it is proved
+/// never to come on a sound table.
 fn numbers_of(call: Call) -> &'static [usize] {
     match call {
         Call::Fresh => &[1, 2],
@@ -66,11 +65,11 @@ fn lack_of(total: &Tally, call: Call, name: &str, number: usize) -> Option<Strin
 /// One line that says what was asked for and met.
 pub fn told(total: &Tally) -> String {
     let least = (1..NUMBERS)
-        .filter(|number| *number != NEVER)
+        .filter(|number| CALLS.iter().any(|(call, _)| numbers_of(*call).contains(number)))
         .map(|number| total.times_in_all(number))
         .min();
     format!(
-        "each number but {NEVER} at least {} times, up to n {} and m {}",
+        "each number that a call can answer at least {} times, up to n {} and m {}",
         least.unwrap_or(0),
         total.greatest_readings,
         total.greatest_points

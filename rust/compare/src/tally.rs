@@ -28,8 +28,8 @@ pub const CALLS: [(Call, &str); 8] = [
     (Call::Query, "query"),
 ];
 
-/// Refusal numbers go from 1 to 16; 0 is the number of a call that was done.
-pub const NUMBERS: usize = 17;
+/// Refusal numbers go from 1 to 23, those of the change requests included; 0 is the number of a call that was done.
+pub const NUMBERS: usize = 24;
 
 /// The counts of one family, or of all.
 #[derive(Clone, Default)]
@@ -46,7 +46,7 @@ pub struct Tally {
 }
 
 impl Tally {
-    /// Counts one answer of a call. Numbers above 16, which document 01 does not have, count as 16.
+    /// Counts one answer of a call. Numbers above 23, which no document has, count as 23.
     pub fn count(&mut self, call: Call, number: u8) {
         self.numbers[call as usize][usize::from(number).min(NUMBERS - 1)] += 1;
     }
