@@ -1,6 +1,7 @@
 /*
  * A small use of vimrothi.h: one table is made by hand, a second one comes from a log that was cut, and the two
- * are merged, listed and asked. It ends with status 1 where something is refused that should not be.
+ * are merged, listed and asked; last, the log's report is printed. It ends with status 1 where something is refused
+ * that should not be.
  *
  *   cc -std=c99 -Wall -Wextra -Wpedantic -Werror -O2 -o example example.c ../target/staticlib/libexport.a
  */
@@ -41,16 +42,19 @@ static void enter_by_hand(struct table *t) {
 }
 
 /* The second tablet: 12 at (5, -5), and the battery went flat in the second reading. */
-static void load_what_is_there(struct table *t) {
-    const uint8_t log[] = {
-        0x01, 1, 2, 8, 0,
-        0x11, 5, 0, 0, 0, 0xFB, 0xFF, 0xFF, 0xFF, 12, 0, 0, 0,
-        0x11, 4, 0, 0, 0, 0xFC, 0xFF,
-    };
+static const uint8_t cut_log[] = {
+    0x01, 1, 2, 8, 0,
+    0x11, 5, 0, 0, 0, 0xFB, 0xFF, 0xFF, 0xFF, 12, 0, 0, 0,
+    0x11, 4, 0, 0, 0, 0xFC, 0xFF,
+};
+
+/* Loads the readings before the cut, and answers where the cut is. */
+static size_t load_what_is_there(struct table *t) {
     size_t offset = 0;
-    uint8_t number = vimrothi_load(log, sizeof log, VIMROTHI_HEAD(t->head), MEMORY(t), &offset);
+    uint8_t number = vimrothi_load(cut_log, sizeof cut_log, VIMROTHI_HEAD(t->head), MEMORY(t), &offset);
     expect("load", number, VIMROTHI_BODY_CUT);
     printf("log: refused with %d at byte %zu; readings before it: %zu\n", number, offset, t->head.readings);
+    return offset;
 }
 
 static void print_points(const struct table *t) {
@@ -79,15 +83,28 @@ static void print_answers(const struct table *t) {
     }
 }
 
+/* What dyemap prints for so many bytes of the log. The buffer is static: a thread's stack may be smaller. */
+static void print_report(size_t bytes) {
+    static uint8_t out[VIMROTHI_REPORT_ROOM];
+    size_t written = vimrothi_report(cut_log, bytes, out, sizeof out);
+    if (written == 0) {
+        fprintf(stderr, "report had no room\n");
+        exit(EXIT_FAILURE);
+    }
+    printf("report of %zu bytes:\n%.*s", bytes, (int)written, (const char *)out);
+}
+
 int main(void) {
     static struct table ours, theirs;
     enter_by_hand(&ours);
-    load_what_is_there(&theirs);
+    size_t cut = load_what_is_there(&theirs);
     uint8_t number = vimrothi_merge(VIMROTHI_HEAD(ours.head), MEMORY(&ours),
                                     VIMROTHI_HEAD_VALUES(theirs.head), MEMORY(&theirs));
     expect("merge", number, VIMROTHI_DONE);
     printf("merged: %zu readings, %zu points\n", ours.head.readings, ours.head.points);
     print_points(&ours);
     print_answers(&ours);
+    print_report(sizeof cut_log);
+    print_report(cut);
     return EXIT_SUCCESS;
 }

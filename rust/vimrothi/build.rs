@@ -7,14 +7,14 @@ fn main() {
     let library = folder.join("libexport.a");
     let Ok(archive) = std::fs::read(&library) else {
         refuse(&format!(
-            "{} is not there: run `rt staticlib export` first",
+            "{} is not there: run `rt staticlib export` first, or on Arm `.ci/library`",
             library.display()
         ));
     };
     let target = std::env::var("CARGO_CFG_TARGET_ARCH").unwrap_or_default();
     if processor_of(&archive) != Some(target.as_str()) {
         refuse(&format!(
-            "{} is not compiled for {target}: `rt staticlib export` compiles for x86-64 Linux",
+            "{} is not compiled for {target}: `rt staticlib export` compiles for x86-64 Linux, `.ci/library` for the machine that it runs on",
             library.display()
         ));
     }

@@ -11,7 +11,6 @@ use Rattle.lattice.specs.Limits.{most-d, farthest-point}
 use Rattle.table.specs.Table.{Settings, Table, Row, row}
 use Rattle.table.specs.Sound.{Good}
 use Rattle.table.proofs.Good.{kept-at}
-use Rattle.table.proofs.Soundness.{of-fine}
 use Rattle.table.proofs.Theorems.{sums-small}
 use Rattle.blur.specs.Sheet.{sheetAfter, withSums}
 use Rattle.blur.specs.Inner.{most-sum, Movable, Readable, Blurrable, Sheets, Blurred}
@@ -50,8 +49,8 @@ module _ (c : Settings) (t : Table) (first second : List ℤ) (S : Sheets c t fi
 
     small : (j : ℕ) → Abs≤ (at l j) most-sum
     small = each-place (λ j. Abs≤ (at l j) most-sum) (t .m)
-        (λ i h. rw (own (2 * i) (omega arith)) (let s = sums-small c t (of-fine c t (S .fine)) i h .mass-small .abs in record { abs = omega (arith, s) }))
-        (λ i h. rw (own (2 * i + 1) (omega arith)) (sums-small c t (of-fine c t (S .fine)) i h .value-small))
+        (λ i h. rw (own (2 * i) (omega arith)) (let s = sums-small c t (S .fine) i h .mass-small .abs in record { abs = omega (arith, s) }))
+        (λ i h. rw (own (2 * i + 1) (omega arith)) (sums-small c t (S .fine) i h .value-small))
         (λ j h. rw (rest j h) (record { abs = omega arith }))
 
     pub blurrable : {to : List ℤ} → length to ≡ length second → Blurrable c (withSums t l) to

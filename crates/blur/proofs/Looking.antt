@@ -9,25 +9,21 @@ use lib.ListN.{length}
 use borrow.Author.Tests.{lt-ltb, le-ltb}
 use Rattle.whole.specs.Lists.{at}
 use Rattle.index.specs.Keys.{keyAt}
-use Rattle.index.specs.Search.{search}
+use Rattle.index.specs.Search.{search, Searchable}
 use Rattle.index.proofs.Finding.{found-low}
 use Rattle.table.specs.Table.{Settings, Table, key, entry, found, pairAt}
-use Rattle.pour.specs.Inner.{Sought}
+use Rattle.table.proofs.Soundness.{table-searched}
 use Rattle.pour.proofs.Seeking.{entry-is}
 use Rattle.blur.specs.Inner.{Readable, PairIs}
 
 module _ (c : Settings) (t : Table) (y : List ℤ) (R : Readable c t) (size : length y ≡ c .d) where
-  pub sought : Sought c (t .keys) (t .index) y
-  sought = record {
-    points = t .m;
-    seekable = record { ranged = R .ranged; keys-size = R .shape .keys; index-size = R .shape .index; sparse = R .indexed .sparse };
-    key-size = size;
-  }
+  pub searched : Searchable (c .d) (c .C) (t .keys) (t .index)
+  searched = table-searched c t (R .ranged) (R .shape) (R .indexed .sparse)
 
   -- the place where the search ends
   module _ {p : ℕ} (e : p ≡ search (c .C) (keyAt (length y) (t .keys)) (entry t) y) where
     here : entry t p ≡ found c t y
-    here = entry-is c (t .keys) (t .index) y sought e
+    here = entry-is (c .d) (c .C) (t .keys) (t .index) y searched size e
 
     -- ---- it is empty
     pub none-found : entry t p ≡ 0 → PairIs c t y false (pos 0) (pos 0)

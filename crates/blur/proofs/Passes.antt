@@ -26,7 +26,7 @@ use Rattle.index.specs.Search.{walk, search as sought}
 use Rattle.index.specs.Indexed.{count, sparse, finding}
 use Rattle.table.specs.Table.{rows, whole}
 use Rattle.table.specs.Sound.{goodKey, goodPair, indexed, sound}
-use Rattle.table.specs.Pour.{setPair, append, raise, pour, news}
+use Rattle.table.specs.Pour.{setPair, append, raise, pour, newsIn}
 use Rattle.table.specs.Reading.{parsed, shares, refusal}
 use Rattle.table.specs.Calls.{ranged, fits, fresh, enterAll, callRefusal, enter}
 use Rattle.blur.specs.Blur.{plusStep, minusStep, pass, passes, step, massAfter, valueAfter}
@@ -36,11 +36,11 @@ use Rattle.blur.specs.Worked.{BlurCases, AxisCases}
 
 -- ---- the worked log, and two axes
 pub blur-cases : BlurCases
-unfolding floor remainder sum over all tab collect word first allNear sumsToZero best spread weight corner lastOf points same keyAt hash home walk sought count sparse finding rows whole goodKey goodPair indexed sound setPair append raise pour news parsed shares refusal ranged fits fresh enterAll callRefusal enter step plusStep minusStep pass passes massAfter valueAfter sheet
+unfolding floor remainder sum over all tab collect word first allNear sumsToZero best spread weight corner lastOf points same keyAt hash home walk sought count sparse finding rows whole goodKey goodPair indexed sound setPair append raise pour newsIn parsed shares refusal ranged fits fresh enterAll callRefusal enter step plusStep minusStep pass passes massAfter valueAfter sheet
 blur-cases = record { mass-at-one = refl; value-at-one = refl; mass-at-two = refl; value-at-two = refl; in-stored-order = refl }
 
 pub axis-cases : AxisCases
-unfolding floor remainder sum over all tab collect word first allNear sumsToZero best spread weight corner lastOf points same keyAt hash home walk sought count sparse finding rows whole goodKey goodPair indexed sound setPair append raise pour news parsed shares refusal ranged fits fresh enterAll callRefusal enter step plusStep minusStep pass passes massAfter valueAfter sheet
+unfolding floor remainder sum over all tab collect word first allNear sumsToZero best spread weight corner lastOf points same keyAt hash home walk sought count sparse finding rows whole goodKey goodPair indexed sound setPair append raise pour newsIn parsed shares refusal ranged fits fresh enterAll callRefusal enter step plusStep minusStep pass passes massAfter valueAfter sheet
 axis-cases = record { own-pairs = refl; after-pass-0 = refl; after-pass-1 = refl; after-pass-2 = refl }
 
 -- ---- the numbers after passes depend only on which points are stored and on the numbers before

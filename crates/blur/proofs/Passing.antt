@@ -22,7 +22,7 @@ use Rattle.table.specs.Table.{Settings, Table, key, held}
 use Rattle.table.specs.Pour.{setPair}
 use Rattle.table.proofs.Store.{pair-length, pair-mass, pair-value, pair-else}
 use Rattle.blur.specs.Blur.{plusStep, minusStep, pass, isStored, masses, values}
-use Rattle.blur.specs.Inner.{most-blurred, Movable, neighbourOf, PairIs, Passable, NewPair, Passed}
+use Rattle.blur.specs.Inner.{most-blurred, Movable, neighbourOf, PairIs, Passable, NewPair, NewPairs}
 use Rattle.blur.proofs.Moving.{neighbour-length}
 use Rattle.blur.proofs.Stored.{own-stored, own-pair, held-small}
 
@@ -124,8 +124,8 @@ module _ (c : Settings) (t : Table) (Q : Passable c t) (i : ℕ) (l : i < t .m) 
   pair-in to s = omega (arith, s, Q .readable .indexed .sparse .room)
 
   -- one pair more; it was passed on in 64 bits
-  pub passed-more : (k : ℕ) {to to′ : List ℤ} {mass value : ℤ} → SFits w64 mass → SFits w64 value → Passed c t k i to → NewPair c t k (key c t i) mass value
-      → to′ ≡ setPair to i (W64 mass) (W64 value) → Passed c t k (i + 1) to′
+  pub passed-more : (k : ℕ) {to to′ : List ℤ} {mass value : ℤ} → SFits w64 mass → SFits w64 value → NewPairs c t k i to → NewPair c t k (key c t i) mass value
+      → to′ ≡ setPair to i (W64 mass) (W64 value) → NewPairs c t k (i + 1) to′
   passed-more k {to} {mass} {value} f g S N e = rw (e ∙ ap₂ (setPair to i) (toZ-ofZ f) (toZ-ofZ g))
       (record { size = pair-length to i mass value ∙ S .size; pairs = λ j q. go j q (ℕ-discrete j i) })
     where
@@ -133,5 +133,5 @@ module _ (c : Settings) (t : Table) (Q : Passable c t) (i : ℕ) (l : i < t .m) 
       go j q (yes h) = rw (h, pair-mass to i mass value (omega (arith, pair-in to (S .size))), pair-value to i mass value (pair-in to (S .size))) N
       go j q (no h) = rw (pair-else to i mass value (2 * j) (omega arith) (omega arith), pair-else to i mass value (2 * j + 1) (omega arith) (omega arith)) (S .pairs j (omega arith))
 
-pub passed-none : (c : Settings) (t : Table) (k : ℕ) {to : List ℤ} → length to ≡ 2 * c .C → Passed c t k 0 to
+pub passed-none : (c : Settings) (t : Table) (k : ℕ) {to : List ℤ} → length to ≡ 2 * c .C → NewPairs c t k 0 to
 passed-none c t k s = record { size = s; pairs = λ i h. absurd (omega arith) }

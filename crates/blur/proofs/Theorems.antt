@@ -14,8 +14,7 @@ use Rattle.whole.proofs.Ring.{le-trans}
 use Rattle.whole.proofs.Tests.{T-ext}
 use Rattle.lattice.specs.Limits.{most-value, most-readings, most-W}
 use Rattle.table.specs.Table.{Settings, Table, found, held}
-use Rattle.table.specs.Theorems.{Usable}
-use Rattle.table.proofs.Soundness.{to-fine}
+use Rattle.table.specs.Sound.{Fine}
 use Rattle.table.proofs.Theorems.{stored-exactly, sums-small}
 use Rattle.blur.specs.Blur.{passes, isStored, masses, values, massAfter, valueAfter}
 use Rattle.blur.specs.Inner.{Readable}
@@ -54,12 +53,12 @@ module _ (c : Settings) (t : Table) where
   after-between lo hi = passes-keep-between (isStored c t) (c .d) lo hi (masses c t) (values c t)
 
 -- ---- a sound table
-module _ (c : Settings) (t : Table) (U : Usable c t) where
+module _ (c : Settings) (t : Table) (U : Fine c t) where
   readable : Readable c t
-  readable = fine-readable c t (to-fine c t U)
+  readable = fine-readable c t U
 
   pub masses-low : (y : List ℤ) → pos 0 ≤ℤ masses c t y
-  masses-low = every-pair c t readable (λ m v. pos 0 ≤ℤ m) (≤ℤ-refl (pos 0)) (λ i l. le-trans (le-out (pos 0) (pos 1) (omega arith)) (to-fine c t U .sound .good i l .some))
+  masses-low = every-pair c t readable (λ m v. pos 0 ≤ℤ m) (≤ℤ-refl (pos 0)) (λ i l. le-trans (le-out (pos 0) (pos 1) (omega arith)) (U .sound .good i l .some))
 
   masses-small : (y : List ℤ) → Abs≤ (masses c t y) (most-W * most-readings)
   masses-small = every-pair c t readable (λ m v. Abs≤ m (most-W * most-readings)) (record { abs = omega arith }) (λ i l. sums-small c t U i l .mass-small)
@@ -81,11 +80,11 @@ blur-small c t U n y = record {
 -- ---- the sheet after n passes
 pub sheet-holds : SheetHolds
 sheet-holds c t U n =
-    sheet-held c t (fine-readable c t (to-fine c t U)) (massAfter c t n) (valueAfter c t n) (mass-off c t n) (value-off c t n)
+    sheet-held c t (fine-readable c t U) (massAfter c t n) (valueAfter c t n) (mass-off c t n) (value-off c t n)
 
 -- ---- two sound tables of one map
 module _ (c : Settings) (t : Table) (b : Settings) (s : Table) (same : (y : List ℤ) → held c t y ≡ held b s y) where
-  also-stored : Usable c t → Usable b s → (y : List ℤ) → T (isStored c t y) → T (isStored b s y)
+  also-stored : Fine c t → Fine b s → (y : List ℤ) → T (isStored c t y) → T (isStored b s y)
   also-stored U U′ y h = lt→ltb 0 (found b s y) (stored-exactly b s U′ y .1 (rw (same y) at (stored-exactly c t U y .0 (ltb→lt 0 (found c t y) h))))
 
 pub blur-of-map : BlurOfMap

@@ -11,7 +11,7 @@ use Rattle.whole.specs.Lists.{at, splice}
 use Rattle.table.specs.Table.{Settings, Table, key, held}
 use Rattle.blur.specs.Blur.{pass, passes, isStored, masses, values, massAfter, valueAfter}
 use Rattle.blur.specs.Sheet.{sheet, sheetAfter, withSums}
-use Rattle.blur.specs.Inner.{most-sum, most-blurred, Readable, Passed, Returning, passedSheet, Blurrable}
+use Rattle.blur.specs.Inner.{most-sum, most-blurred, Readable, NewPairs, Returning, passedSheet, Blurrable}
 use Rattle.blur.proofs.Copying.{copied-length, copied-in, copied-past}
 use Rattle.blur.proofs.Passes.{passes-small}
 use Rattle.blur.proofs.Sheets.{each-place, sheet-is, sheet-length, sheet-mass, sheet-value, sheet-rest, sheet-held}
@@ -19,7 +19,7 @@ use Rattle.blur.proofs.Theorems.{mass-off, value-off}
 use Rattle.blur.proofs.Stored.{sheet-readable, own-pair, held-small}
 
 -- ---- the new pairs, copied back
-pub passed-back : {first : List ℤ} (c : Settings) (t : Table) (k : ℕ) (second to : List ℤ) → Returning c t second → Passed c t k (t .m) to
+pub passed-back : {first : List ℤ} (c : Settings) (t : Table) (k : ℕ) (second to : List ℤ) → Returning c t second → NewPairs c t k (t .m) to
     → first ≡ splice (t .sums) 0 (take (2 * t .m) to) → first ≡ passedSheet c t k
 passed-back {first} c t k second to R Q e =
     let room = R .passable .readable .indexed .sparse .room in

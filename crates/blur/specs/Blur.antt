@@ -41,14 +41,14 @@ masses c t y = held c t y .0
 abbrev pub values : Settings → Table → List ℤ → ℤ
 values c t y = held c t y .1
 
--- those after the first n passes
+-- the masses and value sums of a table after the first n passes
 unfoldable pub massAfter : Settings → Table → ℕ → List ℤ → ℤ
 massAfter c t n = passes (isStored c t) (c .d) n (masses c t)
 
 unfoldable pub valueAfter : Settings → Table → ℕ → List ℤ → ℤ
 valueAfter c t n = passes (isStored c t) (c .d) n (values c t)
 
--- and after all of them, "k = 0 to d"
+-- the masses and value sums of a table after all passes, "k = 0 to d"
 abbrev pub blurredMass : Settings → Table → List ℤ → ℤ
 blurredMass c t = massAfter c t (suc (c .d))
 

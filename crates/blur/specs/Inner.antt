@@ -7,19 +7,20 @@ use lib.IntN.{ℤ, pos}
 use lib.ListN.{length}
 use Rattle.whole.specs.Size.{Abs≤}
 use Rattle.whole.specs.Lists.{at}
-use Rattle.lattice.specs.Limits.{most-d, most-value, most-readings, most-W, farthest-point}
+use Rattle.lattice.specs.Limits.{most-d, most-coords, most-value, most-readings, most-W, farthest-point}
 use Rattle.index.specs.Indexed.{Indexed}
 use Rattle.table.specs.Table.{Settings, Table, key, entry}
 use Rattle.table.specs.Sound.{Ranged, Shape, Fine}
 use Rattle.blur.specs.Blur.{plusStep, minusStep, pass, isStored, masses, values}
 use Rattle.blur.specs.Sheet.{sheet, blurredSheet, clearSheet}
 
--- the greatest value sum of a table, and what six passes make of it: 4^6·384·4,096·1,000,000
+-- the greatest value sum of a table
 abbrev pub most-sum : ℕ
 most-sum = most-value * (most-W * most-readings)
 
+-- what the passes make of it at most, six of them, one for each coordinate: 4^6·384·4,096·1,000,000
 abbrev pub most-blurred : ℕ
-most-blurred = 4 ^ 6 * most-sum
+most-blurred = 4 ^ most-coords * most-sum
 
 -- a key that can be moved by a step in 32 bits
 pub record Movable (y : List ℤ) : Type 0 where
@@ -54,7 +55,7 @@ pub record NewPair (c : Settings) (t : Table) (k : ℕ) (y : List ℤ) (mass val
   pub value-is : value ≡ pass (isStored c t) (c .d) k (values c t) y
 
 -- A sheet has the new pairs of the first n points.
-pub record Passed (c : Settings) (t : Table) (k n : ℕ) (to : List ℤ) : Type 0 where
+pub record NewPairs (c : Settings) (t : Table) (k n : ℕ) (to : List ℤ) : Type 0 where
   pub size : length to ≡ 2 * c .C
   pub pairs : (i : ℕ) → i < n → NewPair c t k (key c t i) (at to (2 * i)) (at to (2 * i + 1))
 

@@ -12,7 +12,7 @@ use Rattle.whole.specs.Lists.{at}
 use Rattle.lattice.specs.Limits.{most-value, most-readings, most-W}
 use Rattle.lattice.specs.Lattice.{Point}
 use Rattle.table.specs.Table.{Settings, Table, whole, held}
-use Rattle.table.specs.Theorems.{Usable}
+use Rattle.table.specs.Sound.{Fine}
 use Rattle.blur.specs.Blur.{step, plusStep, minusStep, pass, passes, isStored, massAfter, valueAfter}
 use Rattle.blur.specs.Sheet.{withSums, sheetAfter}
 
@@ -35,16 +35,16 @@ pub record Linear (p : (List ℤ → ℤ) → List ℤ → ℤ) : Type 0 where
 abbrev pub PassLinear : Type 0
 PassLinear = (stored : List ℤ → Bool) (d k : ℕ) → Linear (pass stored d k)
 
--- and so are the first n of them
+-- the first n passes are linear
 abbrev pub PassesLinear : Type 0
 PassesLinear = (stored : List ℤ → Bool) (d n : ℕ) → Linear (passes stored d n)
 
--- lo·mass ≤ value sum ≤ hi·mass, at every point,
+-- lo·mass ≤ value sum ≤ hi·mass, at every point
 pub record Between (lo hi : ℤ) (mass value : List ℤ → ℤ) : Type 0 where
   pub low : (y : List ℤ) → (lo *ℤ mass y) ≤ℤ value y
   pub high : (y : List ℤ) → value y ≤ℤ (hi *ℤ mass y)
 
--- is kept by every pass
+-- every pass keeps lo·mass ≤ value sum ≤ hi·mass
 abbrev pub PassKeepsBetween : Type 0
 PassKeepsBetween = (stored : List ℤ → Bool) (d k : ℕ) (lo hi : ℤ) (mass value : List ℤ → ℤ)
     → Between lo hi mass value → Between lo hi (pass stored d k mass) (pass stored d k value)
@@ -54,9 +54,9 @@ abbrev pub PassDoubles : Type 0
 PassDoubles = (stored : List ℤ → Bool) (d k : ℕ) (mass : List ℤ → ℤ) → ((y : List ℤ) → pos 0 ≤ℤ mass y)
     → (y : List ℤ) → T (stored y) → (pos 2 *ℤ mass y) ≤ℤ pass stored d k mass y
 
--- so a sound table's is above 0 after any number of passes
+-- a stored point of a sound table has mass above 0 after any number of passes
 abbrev pub MassAbove : Type 0
-MassAbove = (c : Settings) (t : Table) → Usable c t → (n : ℕ) (y : List ℤ) → T (isStored c t y) → pos 1 ≤ℤ massAfter c t n y
+MassAbove = (c : Settings) (t : Table) → Fine c t → (n : ℕ) (y : List ℤ) → T (isStored c t y) → pos 1 ≤ℤ massAfter c t n y
 
 -- "These limits keep every sum in 64 bits": a pass makes no number more than four times the greatest, so after n of them no mass passes
 -- 4^n·384·4,096, and no value sum a million times that
@@ -65,11 +65,11 @@ pub record PassedSmall (c : Settings) (t : Table) (n : ℕ) (y : List ℤ) : Typ
   pub value-small : Abs≤ (valueAfter c t n y) (4 ^ n * (most-value * (most-W * most-readings)))
 
 abbrev pub BlurSmall : Type 0
-BlurSmall = (c : Settings) (t : Table) → Usable c t → (n : ℕ) (y : List ℤ) → PassedSmall c t n y
+BlurSmall = (c : Settings) (t : Table) → Fine c t → (n : ℕ) (y : List ℤ) → PassedSmall c t n y
 
 -- the sheet after n passes has the blurred map: the pair found for a point in the table with the sheet in place of its sums
 abbrev pub SheetHolds : Type 0
-SheetHolds = (c : Settings) (t : Table) → Usable c t → (n : ℕ) (y : List ℤ) → held c (withSums t (sheetAfter c t n)) y ≡ (massAfter c t n y, valueAfter c t n y)
+SheetHolds = (c : Settings) (t : Table) → Fine c t → (n : ℕ) (y : List ℤ) → held c (withSums t (sheetAfter c t n)) y ≡ (massAfter c t n y, valueAfter c t n y)
 
 -- the blur depends on the table's map alone, not on the order in which points are stored
 pub record SameBlur (c : Settings) (t : Table) (b : Settings) (s : Table) (n : ℕ) (y : List ℤ) : Type 0 where
@@ -78,5 +78,5 @@ pub record SameBlur (c : Settings) (t : Table) (b : Settings) (s : Table) (n : �
   pub value-same : valueAfter c t n y ≡ valueAfter b s n y
 
 abbrev pub BlurOfMap : Type 0
-BlurOfMap = (c : Settings) (t : Table) (b : Settings) (s : Table) → Usable c t → Usable b s → c .d ≡ b .d
+BlurOfMap = (c : Settings) (t : Table) (b : Settings) (s : Table) → Fine c t → Fine b s → c .d ≡ b .d
     → ((y : List ℤ) → held c t y ≡ held b s y) → (n : ℕ) (y : List ℤ) → SameBlur c t b s n y

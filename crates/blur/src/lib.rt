@@ -4,7 +4,7 @@ ghost use mathlib.Core.Path.{_≡_};
 ghost use Prim.Native.Nat.{suc, _*_, _≤_};
 ghost use lib.ListN.{length, take};
 ghost use Rattle.whole.specs.Lists.{splice};
-ghost use Rattle.table.specs.Heads.{settings, table};
+ghost use Rattle.table.specs.Heads.{settings, table, tableIn};
 ghost use Rattle.blur.specs.Sheet.{sheetAfter};
 ghost use Rattle.blur.specs.Inner.{Returning, passedSheet, Blurrable, Sheets, Blurred};
 
@@ -39,7 +39,7 @@ fn pass_back(
 )
     requires { ⌜ Returning (settings head) (table head (now keys) (now first) (now index)) (now second) ⌝ }
     ensures { λ r. ⌜
-        (let t = table head (now (keys .entry)) (now (first .entry)) (now (index .entry)) in
+        (let t = tableIn head keys first index in
         now (first .exit) ≡ passedSheet (settings head) t k)
         ⌝ }
 {
@@ -51,7 +51,7 @@ fn pass_back(
 fn all_passes(head: Head, keys: &[i32], index: &[u16], first: &mut [i64], second: &mut [i64])
     requires { ⌜ Blurrable (settings head) (table head (now keys) (now first) (now index)) (now second) ⌝ }
     ensures { λ r. ⌜
-        (let t = table head (now (keys .entry)) (now (first .entry)) (now (index .entry)) in
+        (let t = tableIn head keys first index in
         now (first .exit) ≡ sheetAfter (settings head) t (suc (head .d)))
         ⌝ }
 {
@@ -73,7 +73,7 @@ pub fn blur(
 )
     requires { ⌜ Sheets (settings head) (table head (now keys) (now sums) (now index)) (now first) (now second) ⌝ }
     ensures { λ r. ⌜
-        (let t = table head (now (keys .entry)) (now (sums .entry)) (now (index .entry)) in
+        (let t = tableIn head keys sums index in
         Blurred (settings head) t (now (first .exit)) (now (second .exit)))
         ⌝ }
 {

@@ -1,7 +1,7 @@
 // The pair that a sheet has for a point.
 ghost use mathlib.Core.Path.{_≡_};
 ghost use lib.ListN.{length};
-ghost use Rattle.table.specs.Heads.{settings, table};
+ghost use Rattle.table.specs.Heads.{settings, table, tableIn};
 ghost use Rattle.blur.specs.Inner.{Readable, PairIs};
 use table::Head;
 
@@ -17,7 +17,7 @@ pub fn pair_of(head: Head, keys: &[i32], index: &[u16], sheet: &[i64], key: &[i3
     requires { ⌜ Readable (settings head) (table head (now keys) (now sheet) (now index)) ⌝ }
     requires { ⌜ length (now key) ≡ head .d ⌝ }
     ensures { λ r. ⌜
-        (let t = table head (now (keys .entry)) (now (sheet .entry)) (now (index .entry)) in
+        (let t = tableIn head keys sheet index in
         PairIs (settings head) t (now (key .entry)) (r .stored) (r .mass) (r .value))
         ⌝ }
 {

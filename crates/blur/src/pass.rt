@@ -5,8 +5,8 @@ ghost use lib.IntN.{pos, _+ℤ_, _*ℤ_};
 ghost use lib.ListN.{length};
 ghost use Rattle.whole.specs.Size.{Abs≤};
 ghost use Rattle.index.specs.Keys.{keyAt};
-ghost use Rattle.table.specs.Heads.{settings, table};
-ghost use Rattle.blur.specs.Inner.{most-blurred, neighbourOf, PairIs, Passable, NewPair, Passed};
+ghost use Rattle.table.specs.Heads.{settings, table, tableIn};
+ghost use Rattle.blur.specs.Inner.{most-blurred, neighbourOf, PairIs, Passable, NewPair, NewPairs};
 use crate::pair::Pair;
 use crate::pair::pair_of;
 use crate::step::put_neighbour;
@@ -35,7 +35,7 @@ fn neighbour_pair(
     requires { ⌜ Passable (settings head) (table head (now keys) (now sheet) (now index)) ⌝ }
     requires { ⌜ point < head .points ⌝ }
     ensures { λ r. ⌜
-        (let t = table head (now (keys .entry)) (now (sheet .entry)) (now (index .entry)) in
+        (let t = tableIn head keys sheet index in
         PairIs (settings head) t (neighbourOf plus (head .d) k (keyAt (head .d) (now (keys .entry)) point)) (r .stored) (r .mass) (r .value))
         ⌝ }
 {
@@ -52,7 +52,7 @@ fn new_pair(head: Head, keys: &[i32], index: &[u16], sheet: &[i64], point: usize
     requires { ⌜ Passable (settings head) (table head (now keys) (now sheet) (now index)) ⌝ }
     requires { ⌜ point < head .points ⌝ }
     ensures { λ r. ⌜
-        (let t = table head (now (keys .entry)) (now (sheet .entry)) (now (index .entry)) in
+        (let t = tableIn head keys sheet index in
         NewPair (settings head) t k (keyAt (head .d) (now (keys .entry)) point) (r .mass) (r .value))
         ⌝ }
 {
@@ -73,8 +73,8 @@ pub fn pass(head: Head, keys: &[i32], index: &[u16], from: &[i64], to: &mut [i64
     requires { ⌜ Passable (settings head) (table head (now keys) (now from) (now index)) ⌝ }
     requires { ⌜ length (now to) ≡ 2 * head .capacity ⌝ }
     ensures { λ r. ⌜
-        (let t = table head (now (keys .entry)) (now (from .entry)) (now (index .entry)) in
-        Passed (settings head) t k (head .points) (now (to .exit)))
+        (let t = tableIn head keys from index in
+        NewPairs (settings head) t k (head .points) (now (to .exit)))
         ⌝ }
 {
     let m = head.points;

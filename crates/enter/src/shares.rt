@@ -1,13 +1,13 @@
 // What a reading adds to a table: the points of its enclosing simplex, slot by slot, which is in
 // ascending remainder.
 ghost use mathlib.Core.Path.{_≡_};
-ghost use mathlib.Core.List.{[]};
 ghost use Prim.Native.Nat.{suc, _≤_, _<_};
 ghost use lib.IntN.{pos, natAbs, _*ℤ_};
 ghost use Rattle.lattice.specs.Limits.{most-W, most-value};
-ghost use Rattle.table.specs.Pour.{pour};
-ghost use Rattle.table.specs.Heads.{settings, stored, table, Holds};
-ghost use Rattle.enter.specs.Slots.{slotRows, rowsTo, Pouring, Counting, Counts};
+ghost use Rattle.table.specs.Pour.{pour, newsIn};
+ghost use Rattle.table.specs.Heads.{settings, tableWith, tableWithIn, table, tableIn, HoldsIn};
+ghost use Rattle.enter.specs.Slots.{slotRows, rowsTo, slotKeys, keysTo, SharesToPour, Counting};
+use lattice::limits::MOST_COORDS;
 use pour::add_row;
 use pour::is_new;
 use table::Head;
@@ -21,28 +21,28 @@ fn new_in_slot(
     coords: &[i32],
     slot: usize,
 ) -> usize
-    requires { ⌜ Counting (settings head) (head .points) (now keys) (now index) (now weights) (now coords) ⌝ }
+    requires { ⌜ Counting (head .d) (head .capacity) (now keys) (now index) (now weights) (now coords) ⌝ }
     requires { ⌜ slot < suc (head .d) ⌝ }
-    ensures { λ r. ⌜
-        (let t = table head (now (keys .entry)) [] (now (index .entry)) in
-        Counts (settings head) t (λ v. slotRows (head .d) (now (weights .entry)) (now (coords .entry)) v slot) r)
-        ⌝ }
+    ensures { λ r. ⌜ r ≡ newsIn (settings head) (now (keys .entry)) (now (index .entry)) (slotKeys (head .d) (now (weights .entry)) (now (coords .entry)) slot) ⌝ }
 {
     if weights[slot] == 0 {
         return 0;
     }
-    let start = 6 * slot;
+    let start = MOST_COORDS * slot;
     let end = start + head.d;
     is_new(head, keys, index, &coords[start..end])
 }
 
 // Only the points that are new count.
-pub fn count_new(head: Head, keys: &[i32], index: &[u16], weights: &[u32], coords: &[i32]) -> usize
-    requires { ⌜ Counting (settings head) (head .points) (now keys) (now index) (now weights) (now coords) ⌝ }
-    ensures { λ r. ⌜
-        (let t = table head (now (keys .entry)) [] (now (index .entry)) in
-        Counts (settings head) t (λ v. rowsTo (head .d) (now (weights .entry)) (now (coords .entry)) v (suc (head .d))) r)
-        ⌝ }
+pub fn new_in_slots(
+    head: Head,
+    keys: &[i32],
+    index: &[u16],
+    weights: &[u32],
+    coords: &[i32],
+) -> usize
+    requires { ⌜ Counting (head .d) (head .capacity) (now keys) (now index) (now weights) (now coords) ⌝ }
+    ensures { λ r. ⌜ r ≡ newsIn (settings head) (now (keys .entry)) (now (index .entry)) (keysTo (head .d) (now (weights .entry)) (now (coords .entry)) (suc (head .d))) ⌝ }
 {
     let n = head.d + 1;
     let mut count = 0;
@@ -74,21 +74,21 @@ fn pour_slot(
     slot: usize,
 ) -> usize
     requires { ⌜
-        (let t = stored head points (now keys) (now sums) (now index) in
-        Pouring (settings head) t (now weights) (now coords) value (slotRows (head .d) (now weights) (now coords) value slot))
+        (let t = tableWith head points (now keys) (now sums) (now index) in
+        SharesToPour (settings head) t (now weights) (now coords) value (slotRows (head .d) (now weights) (now coords) value slot))
         ⌝ }
     requires { ⌜ slot < suc (head .d) ⌝ }
     ensures { λ r. ⌜
-        (let t = stored head points (now (keys .entry)) (now (sums .entry)) (now (index .entry)) in
+        (let t = tableWithIn head points keys sums index in
         let rs = slotRows (head .d) (now (weights .entry)) (now (coords .entry)) value slot in
-        Holds (pour (settings head) t rs) r (now (keys .exit)) (now (sums .exit)) (now (index .exit)))
+        HoldsIn (pour (settings head) t rs) r keys sums index)
         ⌝ }
 {
     let weight = weights[slot];
     if weight == 0 {
         return points;
     }
-    let start = 6 * slot;
+    let start = MOST_COORDS * slot;
     let end = start + head.d;
     let mass = weight as i64;
     let sum = times(weight, value);
@@ -116,12 +116,12 @@ pub fn pour_shares(
 ) -> usize
     requires { ⌜
         (let t = table head (now keys) (now sums) (now index) in
-        Pouring (settings head) t (now weights) (now coords) value (rowsTo (head .d) (now weights) (now coords) value (suc (head .d))))
+        SharesToPour (settings head) t (now weights) (now coords) value (rowsTo (head .d) (now weights) (now coords) value (suc (head .d))))
         ⌝ }
     ensures { λ r. ⌜
-        (let t = table head (now (keys .entry)) (now (sums .entry)) (now (index .entry)) in
+        (let t = tableIn head keys sums index in
         let rs = rowsTo (head .d) (now (weights .entry)) (now (coords .entry)) value (suc (head .d)) in
-        Holds (pour (settings head) t rs) r (now (keys .exit)) (now (sums .exit)) (now (index .exit)))
+        HoldsIn (pour (settings head) t rs) r keys sums index)
         ⌝ }
 {
     let n = head.d + 1;

@@ -4,13 +4,13 @@
 // heads that the five numbers make. Nothing proves that a caller in another language passes what
 // these declarations say: c/vimrothi.h has what it owes.
 ghost use Rattle.table.specs.Table.{Settings};
-ghost use Rattle.table.specs.Calls.{lent, freshRefusal, afterFresh, enter, mergeRefusal, afterMerge};
-ghost use Rattle.table.specs.Heads.{settings, table, Answers, Enters};
-ghost use Rattle.listing.specs.Listing.{Lists};
-ghost use Rattle.filter.specs.Filter.{Lent, Filters};
-ghost use Rattle.log.specs.Loading.{Loads, load};
+ghost use Rattle.table.specs.Calls.{freshRefusal, afterFresh, enter, mergeRefusal, afterMerge};
+ghost use Rattle.table.specs.Heads.{lentIn, settings, tableIn, AnswersIn, EntersIn};
+ghost use Rattle.listing.specs.Listing.{ListsIn};
+ghost use Rattle.filter.specs.Filter.{FiltersIn};
+ghost use Rattle.log.specs.Loading.{LoadsIn, load};
 ghost use Rattle.report.specs.Report.{Reports};
-ghost use Rattle.export.specs.Numbers.{headOf};
+ghost use Rattle.export.specs.Numbers.{headFrom};
 use table::Head;
 
 // Makes a fresh table of these settings. The readings and points told are 0, refused or not, whatever
@@ -28,9 +28,9 @@ pub extern "C" fn vimrothi_fresh(
 ) -> u8
     ensures { λ r. ⌜
         (let c : Settings = record { d = now (d .entry); S = now (fineness .entry); C = now (capacity .entry) } in
-        let t = lent (now (keys .entry)) (now (sums .entry)) (now (index .entry)) in
-        let after = headOf (now (d .exit)) (now (fineness .exit)) (now (capacity .exit)) (now (readings .exit)) (now (points .exit)) in
-        Answers c (freshRefusal c t) (afterFresh c t) r after (now (keys .exit)) (now (sums .exit)) (now (index .exit)))
+        let t = lentIn keys sums index in
+        let after = headFrom (now (d .exit)) (now (fineness .exit)) (now (capacity .exit)) (now (readings .exit)) (now (points .exit)) in
+        AnswersIn c (freshRefusal c t) (afterFresh c t) r after keys sums index)
         ⌝ }
 {
     let made = table::fresh::fresh(*d, *fineness, *capacity, keys, sums, index);
@@ -57,11 +57,11 @@ pub extern "C" fn vimrothi_enter(
     taken: &mut usize,
 ) -> u8
     ensures { λ r. ⌜
-        (let head = headOf (now (d .entry)) (now (fineness .entry)) (now (capacity .entry)) (now (readings .entry)) (now (points .entry)) in
+        (let head = headFrom (now (d .entry)) (now (fineness .entry)) (now (capacity .entry)) (now (readings .entry)) (now (points .entry)) in
         let c = settings head in
-        let t = table head (now (keys .entry)) (now (sums .entry)) (now (index .entry)) in
-        let after = headOf (now (d .exit)) (now (fineness .exit)) (now (capacity .exit)) (now (readings .exit)) (now (points .exit)) in
-        Enters c (enter c t (now (list .entry))) (now (taken .exit)) r after (now (keys .exit)) (now (sums .exit)) (now (index .exit)))
+        let t = tableIn head keys sums index in
+        let after = headFrom (now (d .exit)) (now (fineness .exit)) (now (capacity .exit)) (now (readings .exit)) (now (points .exit)) in
+        EntersIn c (enter c t (now (list .entry))) (now (taken .exit)) r after keys sums index)
         ⌝ }
 {
     let head = Head {
@@ -102,14 +102,14 @@ pub extern "C" fn vimrothi_merge(
     source_index: &[u16],
 ) -> u8
     ensures { λ r. ⌜
-        (let head = headOf (now (d .entry)) (now (fineness .entry)) (now (capacity .entry)) (now (readings .entry)) (now (points .entry)) in
-        let source = headOf «source_d» «source_fineness» «source_capacity» «source_readings» «source_points» in
+        (let head = headFrom (now (d .entry)) (now (fineness .entry)) (now (capacity .entry)) (now (readings .entry)) (now (points .entry)) in
+        let source = headFrom «source_d» «source_fineness» «source_capacity» «source_readings» «source_points» in
         let c = settings head in
         let b = settings source in
-        let t = table head (now (keys .entry)) (now (sums .entry)) (now (index .entry)) in
-        let s = table source (now («source_keys» .entry)) (now («source_sums» .entry)) (now («source_index» .entry)) in
-        let after = headOf (now (d .exit)) (now (fineness .exit)) (now (capacity .exit)) (now (readings .exit)) (now (points .exit)) in
-        Answers c (mergeRefusal c t b s) (afterMerge c t b s) r after (now (keys .exit)) (now (sums .exit)) (now (index .exit)))
+        let t = tableIn head keys sums index in
+        let s = tableIn source «source_keys» «source_sums» «source_index» in
+        let after = headFrom (now (d .exit)) (now (fineness .exit)) (now (capacity .exit)) (now (readings .exit)) (now (points .exit)) in
+        AnswersIn c (mergeRefusal c t b s) (afterMerge c t b s) r after keys sums index)
         ⌝ }
 {
     let head = Head {
@@ -158,9 +158,9 @@ pub extern "C" fn vimrothi_list(
     list: &mut [u16],
 ) -> u8
     ensures { λ r. ⌜
-        (let head = headOf d fineness capacity readings points in
-        let t = table head (now (keys .entry)) (now (sums .entry)) (now (index .entry)) in
-        Lists (settings head) t (now (list .entry)) r (now (list .exit)))
+        (let head = headFrom d fineness capacity readings points in
+        let t = tableIn head keys sums index in
+        ListsIn (settings head) t r list)
         ⌝ }
 {
     let head = Head {
@@ -191,10 +191,9 @@ pub extern "C" fn vimrothi_filter(
     codes: &mut [u8],
 ) -> u8
     ensures { λ r. ⌜
-        (let head = headOf d fineness capacity readings points in
-        let t = table head (now (keys .entry)) (now (sums .entry)) (now (index .entry)) in
-        let l : Lent = record { first = now (first .entry); second = now (second .entry); values = now (values .entry); codes = now (codes .entry) } in
-        Filters (settings head) t (now (queries .entry)) l r (now (first .exit)) (now (second .exit)) (now (values .exit)) (now (codes .exit)))
+        (let head = headFrom d fineness capacity readings points in
+        let t = tableIn head keys sums index in
+        FiltersIn (settings head) t (now (queries .entry)) r first second values codes)
         ⌝ }
 {
     let head = Head {
@@ -233,9 +232,9 @@ pub extern "C" fn vimrothi_load(
     offset: &mut usize,
 ) -> u8
     ensures { λ r. ⌜
-        (let t = lent (now (keys .entry)) (now (sums .entry)) (now (index .entry)) in
-        let after = headOf (now (d .exit)) (now (fineness .exit)) (now (capacity .exit)) (now (readings .exit)) (now (points .exit)) in
-        Loads (load (now (log .entry)) t) r (now (offset .exit)) after (now (keys .exit)) (now (sums .exit)) (now (index .exit)))
+        (let t = lentIn keys sums index in
+        let after = headFrom (now (d .exit)) (now (fineness .exit)) (now (capacity .exit)) (now (readings .exit)) (now (points .exit)) in
+        LoadsIn (load (now (log .entry)) t) r (now (offset .exit)) after keys sums index)
         ⌝ }
 {
     let loaded = log::load(log, keys, sums, index);

@@ -12,7 +12,6 @@ use Rattle.whole.proofs.Ring.{neg-times}
 use Rattle.lattice.specs.Limits.{most-W, most-readings, most-value}
 use Rattle.table.specs.Table.{Settings, Table, key, mass, value}
 use Rattle.table.specs.Sound.{Fine}
-use Rattle.table.proofs.Soundness.{of-fine}
 use Rattle.table.proofs.Refusals.{T-of}
 use Rattle.blur.specs.Blur.{masses, values, blurredMass, blurredValue}
 use Rattle.blur.specs.Sheet.{blurredSheet, withSums}
@@ -27,7 +26,7 @@ use Rattle.filter.specs.Inner.{Mapped, Smooth}
 -- no blurred number passes 4^6·384·4,096·1,000,000
 pub blurred-small : (c : Settings) (t : Table) → Fine c t → (y : List ℤ) → Abs≤ (blurredMass c t y) most-blurred × Abs≤ (blurredValue c t y) most-blurred
 blurred-small c t F y =
-    let s = blur-small c t (of-fine c t F) (suc (c .d)) y in
+    let s = blur-small c t F (suc (c .d)) y in
     let d : suc (c .d) ≤ 6 = omega (arith, F .ranged .d-most) in
     let p : 4 ^ suc (c .d) ≤ 4 ^ 6 = pow-le-pow-right (omega arith) d in (
       record { abs = omega (arith, s .mass-small .abs, mul-le-mul p (le-refl (most-W * most-readings))) },
@@ -45,7 +44,7 @@ module _ (c : Settings) (t : Table) (F : Fine c t) where
 
   -- a stored point's blurred mass is above 0
   pub blurred-some : (i : ℕ) → i < t .m → pos 1 ≤ℤ blurredMass c t (key c t i)
-  blurred-some i l = mass-above c t (of-fine c t F) (suc (c .d)) (key c t i) (T-of (own-stored c t (mapped .readable) i l))
+  blurred-some i l = mass-above c t F (suc (c .d)) (key c t i) (T-of (own-stored c t (mapped .readable) i l))
 
   -- value sums are within a million times the mass, and so they are blurred
   fair : Between (negℤ (pos most-value)) (pos most-value) (masses c t) (values c t)
@@ -87,10 +86,10 @@ module _ (c : Settings) (t : Table) (F : Fine c t) where
 
   -- ---- the answers by the sheet
   masses-are : masses c smoothed ≡ blurredMass c t
-  masses-are = fun-ext (λ y. ap (λ (p : ℤ × ℤ). p .0) (sheet-holds c t (of-fine c t F) (suc (c .d)) y))
+  masses-are = fun-ext (λ y. ap (λ (p : ℤ × ℤ). p .0) (sheet-holds c t F (suc (c .d)) y))
 
   values-are : values c smoothed ≡ blurredValue c t
-  values-are = fun-ext (λ y. ap (λ (p : ℤ × ℤ). p .1) (sheet-holds c t (of-fine c t F) (suc (c .d)) y))
+  values-are = fun-ext (λ y. ap (λ (p : ℤ × ℤ). p .1) (sheet-holds c t F (suc (c .d)) y))
 
   pub code-same : (q : List ℤ) → codeBy c (withSums t (blurredSheet c t)) (masses c (withSums t (blurredSheet c t))) q ≡ code c t q
   unfolding codeBy meets weighted

@@ -14,9 +14,8 @@ use Rattle.table.specs.Table.{Settings, Table, key, mass, value, whole, pairAt,
 use Rattle.table.specs.Reading.{Reading, parsed, refusal, entered}
 use Rattle.table.specs.Sound.{Fine}
 use Rattle.table.specs.Calls.{fresh, Outcome, enterAll, enterRefusal, enter, mergeRefusal, merged, afterMerge}
-use Rattle.table.specs.Theorems.{Usable, plus}
+use Rattle.table.specs.Theorems.{plus}
 use Rattle.table.proofs.Good.{key-whole}
-use Rattle.table.proofs.Soundness.{to-fine, of-fine}
 use Rattle.table.proofs.Keeping.{called, parsed-size}
 use Rattle.table.proofs.Entering.{enter-ind}
 use Rattle.table.proofs.Calls.{enter-done, enter-refused, merge-done, merge-refused}
@@ -57,7 +56,7 @@ merge-between lo hi c t b s h k = go (mergeRefusal c t b s) refl
     go (suc x) e = rw (merge-refused c t b s x e) h
 
 -- one reading
-reading-between : (lo hi : ℤ) (c : Settings) (t : Table) (r : Reading) → length (r .position) ≡ suc (c .d) → Usable c t → refusal c t r ≡ 0
+reading-between : (lo hi : ℤ) (c : Settings) (t : Table) (r : Reading) → length (r .position) ≡ suc (c .d) → Fine c t → refusal c t r ≡ 0
     → ValuesBetween lo hi c t → Within lo hi (r .value) → ValuesBetween lo hi c (entered c t r)
 reading-between lo hi c t r size U e h b = all-between lo hi c u (every-pair c u (M .readable) (λ a b. Bounded lo hi (a, b)) (bounded-zero lo hi) each)
   where
@@ -65,7 +64,7 @@ reading-between lo hi c t r size U e h b = all-between lo hi c u (every-pair c u
     u = entered c t r
 
     F : Fine c u
-    F = to-fine c u (enter-keeps c t r size U e)
+    F = enter-keeps c t r size U e
 
     M : Mapped c u
     M = mapped c u F
@@ -83,9 +82,9 @@ reading-between lo hi c t r size U e h b = all-between lo hi c u (every-pair c u
 pub enter-between : EnterBetween
 enter-between lo hi c t l h w = go (enterRefusal c t l) refl
   where
-    taken : (rs : List Reading) (t : Table) → Usable c t → All (λ r. length (r .position) ≡ suc (c .d)) rs → ValuesBetween lo hi c t
+    taken : (rs : List Reading) (t : Table) → Fine c t → All (λ r. length (r .position) ≡ suc (c .d)) rs → ValuesBetween lo hi c t
         → All (λ r. Within lo hi (r .value)) (take ((enterAll c t rs) .taken) rs) → ValuesBetween lo hi c ((enterAll c t rs) .table)
-    taken = enter-ind c (λ t rs o. Usable c t → All (λ r. length (r .position) ≡ suc (c .d)) rs → ValuesBetween lo hi c t
+    taken = enter-ind c (λ t rs o. Fine c t → All (λ r. length (r .position) ≡ suc (c .d)) rs → ValuesBetween lo hi c t
         → All (λ r. Within lo hi (r .value)) (take (o .taken) rs) → ValuesBetween lo hi c (o .table))
         (λ t U z h w. h) (λ t r rs x e U z h w. h)
         (λ t r rs e ih U z h w. ih (enter-keeps c t r (z .0) U e) (z .1) (reading-between lo hi c t r (z .0) U e h (w .0)) (w .1))
@@ -94,6 +93,6 @@ enter-between lo hi c t l h w = go (enterRefusal c t l) refl
     go zero e =
         let q = enter-done c t l e in
         let F = called c t (eqb (length l % (c .d + 2)) 0) e .fine in
-        subst (λ (o : Outcome). ValuesBetween lo hi c (o .table)) (sym q) (taken (parsed (c .d) l) t (of-fine c t F) (parsed-size (c .d) l) h
+        subst (λ (o : Outcome). ValuesBetween lo hi c (o .table)) (sym q) (taken (parsed (c .d) l) t F (parsed-size (c .d) l) h
         (subst (λ (o : Outcome). All (λ r. Within lo hi (r .value)) (take (o .taken) (parsed (c .d) l))) q w))
     go (suc x) e = subst (λ (o : Outcome). ValuesBetween lo hi c (o .table)) (sym (enter-refused c t l x e)) h

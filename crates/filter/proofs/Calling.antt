@@ -22,7 +22,7 @@ use Rattle.blur.specs.Blur.{masses, values}
 use Rattle.blur.specs.Sheet.{blurredSheet, withSums}
 use Rattle.blur.specs.Inner.{Sheets, Blurred}
 use Rattle.filter.specs.Answer.{codeBy, valueBy, code, answer}
-use Rattle.filter.specs.Filter.{Lent, Filters, queryAt, queriesIn, lentFits, filterRefusal, filtered, afterFilter}
+use Rattle.filter.specs.Filter.{Lent, Filters, queryAt, queryCount, lentFits, filterRefusal, filtered, afterFilter}
 use Rattle.filter.specs.Inner.{lentFitsRanged, Answerable, RepliesAre}
 use Rattle.filter.proofs.Answers.{smooth, code-same, value-same}
 
@@ -50,13 +50,13 @@ same-refusal c t queries l = go (ranged c) refl
 record Lengths (c : Settings) (queries : List ℤ) (l : Lent) : Type 0 where
   pub first-size : length (l .first) ≡ 2 * c .C
   pub second-size : length (l .second) ≡ 2 * c .C
-  pub values-size : length (l .values) ≡ queriesIn (c .d) (length queries)
-  pub codes-size : length (l .codes) ≡ queriesIn (c .d) (length queries)
+  pub values-size : length (l .values) ≡ queryCount (c .d) (length queries)
+  pub codes-size : length (l .codes) ≡ queryCount (c .d) (length queries)
 
 lengths : (c : Settings) (queries : List ℤ) (l : Lent) → T (lengthsFit c queries l) → Lengths c queries l
 unfolding lentFitsRanged lentFits
 lengths c queries l h =
-    let n = queriesIn (c .d) (length queries) in
+    let n = queryCount (c .d) (length queries) in
     let a = eqb (length (l .first)) (2 * c .C) in
     let b = eqb (length (l .second)) (2 * c .C) in
     let w = eqb (length queries % suc (c .d)) 0 in
@@ -118,7 +118,7 @@ module _ (c : Settings) (t : Table) (queries : List ℤ) (l : Lent) (x : ℕ) (e
       call-done R =
           let q = e ∙ same-refusal c t queries l in
           let s = sym (filter-done c t queries l (sym q ∙ z)) in
-          let n = queriesIn (c .d) (length queries) in
+          let n = queryCount (c .d) (length queries) in
           let u = withSums t (blurredSheet c t) in
           record {
             number-is = sym z ∙ q;

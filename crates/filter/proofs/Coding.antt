@@ -1,5 +1,5 @@
 -- The code of a query, by the tests in their order, and the stored points that a query meets.
-use mathlib.Core.Path.{_≡_, refl, ap, subst}
+use mathlib.Core.Path.{_≡_, ap, subst}
 use mathlib.Core.Logic.{⊎-elim}
 use mathlib.Core.Bool.{Bool, true, false, not}
 use mathlib.Core.List.{List, [], _∷_}
@@ -7,36 +7,27 @@ use Prim.Native.Nat.{ℕ, _<_, _≤_}
 use native.Mathlib.Nat.{eq-zero-or-pos}
 use native.Mathlib.Omega.{arith}
 use lib.Dec.{T, eqb, eqb→eq}
-use lib.IntN.{ℤ, pos}
+use lib.IntN.{ℤ}
 use borrow.Author.Tests.{eq-eqb}
 use Rattle.whole.specs.Sum.{all}
-use Rattle.whole.proofs.Tests.{T-true, all-at, some-false}
-use Rattle.lattice.specs.Refusals.{first, coordinate-beyond, sum-not-zero, no-point-met, no-mass-met}
-use Rattle.lattice.specs.Position.{allNear, sumsToZero, judged}
-use Rattle.lattice.proofs.Judging.{judged-none}
-use Rattle.index.specs.Keys.{eqZ}
+use Rattle.whole.proofs.Tests.{all-at, some-false}
+use Rattle.lattice.specs.Refusals.{first, coordinate-beyond, sum-not-zero}
+use Rattle.lattice.specs.Position.{allNear, sumsToZero, positionTests, judged}
+use Rattle.lattice.proofs.Tests.{first-stops, first-passes}
 use Rattle.table.specs.Table.{Settings, Table}
-use Rattle.table.proofs.Refusals.{first-zero, T-of}
-use Rattle.filter.specs.Answer.{weightOf, weighted, meets, codeBy}
+use Rattle.table.proofs.Refusals.{T-of}
+use Rattle.filter.specs.Answer.{weightOf, weighted, meets, metTests, codeBy}
 
 -- ---- the number, by the tests made so far
 module _ (c : Settings) (t : Table) (mass : List ℤ → ℤ) (q : List ℤ) where
   pub by-position : (judged q ≡ 0 → ⊥) → codeBy c t mass q ≡ judged q
-  unfolding codeBy judged first
-  by-position h = go (allNear q) (sumsToZero q) refl refl
-    where
-      go : (a b : Bool) → allNear q ≡ a → sumsToZero q ≡ b → codeBy c t mass q ≡ judged q
-      go false b e k = rw e refl
-      go true false e k = rw (e, k) refl
-      go true true e k = absurd (h (judged-none q e k))
+  unfolding codeBy judged
+  by-position h = first-stops (positionTests q) _ h
 
   -- at a position the points around it decide
-  pub by-points : judged q ≡ 0 → codeBy c t mass q ≡ first ((meets c t q, no-point-met) ∷ (not (eqZ (weighted c t mass q) (pos 0)), no-mass-met) ∷ [])
-  unfolding codeBy judged first
-  by-points h =
-      let a = first-zero (allNear q) 3 ((sumsToZero q, sum-not-zero) ∷ []) h in
-      let b = first-zero (sumsToZero q) 4 [] (a .1) in
-      rw (T-true (allNear q) (a .0), T-true (sumsToZero q) (b .0)) refl
+  pub by-points : judged q ≡ 0 → codeBy c t mass q ≡ first (metTests (meets c t q) (weighted c t mass q))
+  unfolding codeBy judged
+  by-points h = first-passes (positionTests q) _ tt h
 
 -- a position's own numbers are 4 and 5
 pub judged-small : (q : List ℤ) → judged q ≤ sum-not-zero

@@ -12,7 +12,7 @@ use Rattle.whole.proofs.Lists.{part-fits, part-tab, tab-is, place-more}
 use Rattle.table.specs.Table.{Settings, Table}
 use Rattle.blur.specs.Blur.{masses, values}
 use Rattle.filter.specs.Answer.{codeBy, valueBy}
-use Rattle.filter.specs.Filter.{queryAt, queriesIn}
+use Rattle.filter.specs.Filter.{queryAt, queryCount}
 use Rattle.filter.specs.Inner.{ReplyIs, Answerable, RepliesAre}
 
 -- ---- where they stand: query j starts at (d + 1)·j
@@ -23,7 +23,7 @@ pub fewer : (d n j : ℕ) → j < n / (d + 1) → j < n
 fewer d n j l = omega (arith, l, div-le-self n (d + 1))
 
 -- how many there are, as the program divides
-count-is : (d n : ℕ) → n / (d + 1) ≡ queriesIn d n
+count-is : (d n : ℕ) → n / (d + 1) ≡ queryCount d n
 count-is d n = rw add-one
 
 -- the numbers of query j, as they are lent
@@ -32,8 +32,8 @@ part-is d l j h = part-tab l ((d + 1) * j) (d + 1) (pos 0) (query-fits d (length
 
 -- ---- the first n are answered
 pub record Answered (c : Settings) (t : Table) (queries : List ℤ) (n : ℕ) (values′ : List ℤ) (codes : List ℕ) : Type 0 where
-  pub values-size : length values′ ≡ queriesIn (c .d) (length queries)
-  pub codes-size : length codes ≡ queriesIn (c .d) (length queries)
+  pub values-size : length values′ ≡ queryCount (c .d) (length queries)
+  pub codes-size : length codes ≡ queryCount (c .d) (length queries)
   pub value-at : (j : ℕ) → j < n → at values′ j ≡ valueBy c t (masses c t) (values c t) (queryAt (c .d) queries j)
   pub code-at : (j : ℕ) → j < n → getD codes j 0 ≡ codeBy c t (masses c t) (queryAt (c .d) queries j)
 
@@ -62,6 +62,6 @@ pub all-answered : {c : Settings} {t : Table} {queries values′ : List ℤ} {co
 all-answered {c} {t} {queries} {values′} {codes} n h A =
     let e = count-is (c .d) (length queries) in
     record {
-      values-are = tab-is (queriesIn (c .d) (length queries)) _ values′ (pos 0) (A .values-size) (λ j l. A .value-at j (omega (arith, e)));
-      codes-are = tab-is (queriesIn (c .d) (length queries)) _ codes 0 (A .codes-size) (λ j l. A .code-at j (omega (arith, e)));
+      values-are = tab-is (queryCount (c .d) (length queries)) _ values′ (pos 0) (A .values-size) (λ j l. A .value-at j (omega (arith, e)));
+      codes-are = tab-is (queryCount (c .d) (length queries)) _ codes 0 (A .codes-size) (λ j l. A .code-at j (omega (arith, e)));
     }

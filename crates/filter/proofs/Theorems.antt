@@ -27,8 +27,6 @@ use Rattle.index.specs.Keys.{eqZ}
 use Rattle.index.proofs.Equality.{eqZ-eq}
 use Rattle.table.specs.Table.{Settings, Table, key, held}
 use Rattle.table.specs.Sound.{Fine}
-use Rattle.table.specs.Theorems.{Usable}
-use Rattle.table.proofs.Soundness.{to-fine}
 use Rattle.blur.specs.Blur.{massAfter, valueAfter, blurredMass, blurredValue}
 use Rattle.blur.specs.Inner.{most-blurred}
 use Rattle.blur.specs.Theorems.{Between}
@@ -65,15 +63,15 @@ module _ (c : Settings) (t : Table) (q : List ℤ) where
           omega (arith, w, le-in (pos (weightOf c t q i)) (term i) (heavy i l), eq-in (pos 0) (term i) e)
 
   -- so it is with the blurred masses of a sound table
-  pub mass-sum-above : Usable c t → meets c t q ≡ true → pos 1 ≤ℤ weighted c t (blurredMass c t) q
-  mass-sum-above U = weighted-above (blurredMass c t) (blurred-some c t (to-fine c t U))
+  pub mass-sum-above : Fine c t → meets c t q ≡ true → pos 1 ≤ℤ weighted c t (blurredMass c t) q
+  mass-sum-above U = weighted-above (blurredMass c t) (blurred-some c t U)
 
 -- ---- the code of a query on a sound table
 -- it is the position's, or 0 where a stored point is met, or 10
 abbrev CodeCases : Settings → Table → List ℤ → Type 0
 CodeCases c t q = ((judged q ≡ 0 → ⊥) × (code c t q ≡ judged q)) ⊎ ((judged q ≡ 0) × (((meets c t q ≡ true) × (code c t q ≡ 0)) ⊎ ((meets c t q ≡ false) × (code c t q ≡ no-point-met))))
 
-code-cases : (c : Settings) (t : Table) → Usable c t → (q : List ℤ) → CodeCases c t q
+code-cases : (c : Settings) (t : Table) → Fine c t → (q : List ℤ) → CodeCases c t q
 unfolding first
 code-cases c t U q = go (ℕ-discrete (judged q) 0) (meets c t q) refl
   where
@@ -124,15 +122,15 @@ coded-right c t U q size = go (code-cases c t U q)
 
 -- ---- the two sums and the value of a query
 -- the two sums of a sound table, over the points of weight above 0
-module _ (c : Settings) (t : Table) (U : Usable c t) (q : List ℤ) where
+module _ (c : Settings) (t : Table) (U : Fine c t) (q : List ℤ) where
   mass-sum : weighted c t (blurredMass c t) q ≡ weighedOver (c .d) (weighed (c .d) (c .S) q) (blurredMass c t)
-  mass-sum = weighted-over c t (mapped c t (to-fine c t U)) (blurredMass c t) (mass-off c t (suc (c .d))) q
+  mass-sum = weighted-over c t (mapped c t U) (blurredMass c t) (mass-off c t (suc (c .d))) q
 
   value-sum : weighted c t (blurredValue c t) q ≡ weighedOver (c .d) (weighed (c .d) (c .S) q) (blurredValue c t)
-  value-sum = weighted-over c t (mapped c t (to-fine c t U)) (blurredValue c t) (value-off c t (suc (c .d))) q
+  value-sum = weighted-over c t (mapped c t U) (blurredValue c t) (value-off c t (suc (c .d))) q
 
 -- a query that is answered meets a point
-pub answered : (c : Settings) (t : Table) → Usable c t → (q : List ℤ) → code c t q ≡ 0 → meets c t q ≡ true
+pub answered : (c : Settings) (t : Table) → Fine c t → (q : List ℤ) → code c t q ≡ 0 → meets c t q ≡ true
 answered c t U q e = go (code-cases c t U q)
   where
     go : CodeCases c t q → meets c t q ≡ true
@@ -176,14 +174,11 @@ answer-between lo hi c t U h q e = rw (value-given c t q e) (rounded-between num
 
 -- ---- nothing leaves 64 bits
 pub answers-fit : AnswersFit
-answers-fit c t U q = record {
-  mass-fits = rw (mass-sum c t U q) (bound (sized (blurredMass c t) (λ y. blurred-small c t F y .0)));
-  value-fits = rw (value-sum c t U q) (bound (sized (blurredValue c t) (λ y. blurred-small c t F y .1)));
+answers-fit c t F q = record {
+  mass-fits = rw (mass-sum c t F q) (bound (sized (blurredMass c t) (λ y. blurred-small c t F y .0)));
+  value-fits = rw (value-sum c t F q) (bound (sized (blurredValue c t) (λ y. blurred-small c t F y .1)));
 }
   where
-    F : Fine c t
-    F = to-fine c t U
-
     ps : List (List ℤ × ℕ)
     ps = weighed (c .d) (c .S) q
 
@@ -198,13 +193,13 @@ answers-fit c t U q = record {
 same-over : (d d′ S S′ : ℕ) (f g : List ℤ → ℤ) (q : List ℤ) → d ≡ d′ → S ≡ S′ → ((y : List ℤ) → f y ≡ g y) → weighedOver d (weighed d S q) f ≡ weighedOver d′ (weighed d′ S′ q) g
 same-over d d′ S S′ f g q e h k = rw (e, h, fun-ext k) refl
 
-module _ (c : Settings) (t : Table) (b : Settings) (s : Table) (U : Usable c t) (U′ : Usable b s) (dim : c .d ≡ b .d) (fine : c .S ≡ b .S)
+module _ (c : Settings) (t : Table) (b : Settings) (s : Table) (U : Fine c t) (U′ : Fine b s) (dim : c .d ≡ b .d) (fine : c .S ≡ b .S)
     (map : (y : List ℤ) → held c t y ≡ held b s y) (q : List ℤ) where
   same-meets : meets c t q ≡ meets b s q
-  same-meets = meets-ones c t (mapped c t (to-fine c t U)) q
+  same-meets = meets-ones c t (mapped c t U) q
       ∙ ap (λ (z : ℤ). not (eqZ z (pos 0))) (same-over (c .d) (b .d) (c .S) (b .S) (ones c t) (ones b s) q dim fine
       (λ y. ap (λ (x : Bool). cond x (pos 1) (pos 0)) (blur-of-map c t b s U U′ dim map 0 y .stored-same)))
-      ∙ sym (meets-ones b s (mapped b s (to-fine b s U′)) q)
+      ∙ sym (meets-ones b s (mapped b s U′) q)
 
   same-mass : weighted c t (blurredMass c t) q ≡ weighted b s (blurredMass b s) q
   same-mass = mass-sum c t U q

@@ -37,7 +37,7 @@ use Rattle.table.proofs.Rows.{gives}
 use Rattle.table.proofs.Soundness.{W-most}
 use Rattle.table.proofs.Shares.{share-given}
 use Rattle.table.specs.Sound.{goodKey, goodPair, indexed, sound, Ranged}
-use Rattle.table.specs.Pour.{setPair, append, raise, pour, news}
+use Rattle.table.specs.Pour.{setPair, append, raise, pour, newsIn}
 use Rattle.table.specs.Calls.{ranged, fits, fresh, enterAll, callRefusal, enter}
 use Rattle.blur.specs.Blur.{isStored, step, plusStep, minusStep, pass, passes, massAfter, valueAfter}
 use Rattle.blur.proofs.Stored.{own-stored}
@@ -47,7 +47,7 @@ use Rattle.filter.specs.Worked.{AnswerCases}
 
 -- ---- the worked log
 pub answer-cases : AnswerCases
-unfolding floor remainder rounded sum over all tab collect word first allNear sumsToZero best spread weight corner lastOf points same keyAt hash home walk sought count sparse finding rows whole goodKey goodPair indexed sound setPair append raise pour news parsed shares refusal ranged fits fresh enterAll callRefusal enter step plusStep minusStep pass passes massAfter valueAfter weighted meets codeBy valueBy
+unfolding floor remainder rounded sum over all tab collect word first allNear sumsToZero best spread weight corner lastOf points same keyAt hash home walk sought count sparse finding rows whole goodKey goodPair indexed sound setPair append raise pour newsIn parsed shares refusal ranged fits fresh enterAll callRefusal enter step plusStep minusStep pass passes massAfter valueAfter weighted meets codeBy valueBy
 answer-cases = record { value-sum = refl; mass-sum = refl; answer-between = refl; answer-near = refl; code-near = refl; answer-far = refl; code-far = refl }
 
 -- a sum over the weighed points, by the points

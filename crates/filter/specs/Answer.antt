@@ -1,14 +1,14 @@
 -- The answer at a query position: a weighted mean of the blurred pairs of the stored points.
 use mathlib.Core.Bool.{Bool, not}
-use mathlib.Core.List.{List, [], _∷_}
+use mathlib.Core.List.{List, [], _∷_, _++_}
 use Prim.Native.Nat.{ℕ, zero, suc}
 use lib.Dec.{eqb}
 use lib.IntN.{ℤ, pos, natAbs, _*ℤ_}
 use Rattle.whole.specs.Rounding.{rounded}
 use Rattle.whole.specs.Sum.{sum, all}
 use Rattle.whole.specs.Lists.{at}
-use Rattle.lattice.specs.Refusals.{first, coordinate-beyond, sum-not-zero, no-point-met, no-mass-met}
-use Rattle.lattice.specs.Position.{allNear, sumsToZero}
+use Rattle.lattice.specs.Refusals.{Tests, first, no-point-met, no-mass-met}
+use Rattle.lattice.specs.Position.{positionTests}
 use Rattle.lattice.specs.Weight.{weight}
 use Rattle.index.specs.Keys.{eqZ}
 use Rattle.table.specs.Table.{Settings, Table, key, whole}
@@ -26,14 +26,13 @@ weighted c t f q = sum (t .m) (λ i. pos (weightOf c t q i) *ℤ f (key c t i))
 unfoldable pub meets : Settings → Table → List ℤ → Bool
 meets c t q = not (all (t .m) (λ i. eqb (weightOf c t q i) 0))
 
+-- what is tested at a position: 10, whether a stored point is met, before 11, of the mass sum
+abbrev pub metTests : Bool → ℤ → Tests
+metTests met mass = (met, no-point-met) ∷ (not (eqZ mass (pos 0)), no-mass-met) ∷ []
+
 -- "each query 4, 5, 10, 11", where the points have these masses
 unfoldable pub codeBy : Settings → Table → (List ℤ → ℤ) → List ℤ → ℕ
-codeBy c t mass q = first (
-    (allNear q, coordinate-beyond)
-    ∷ (sumsToZero q, sum-not-zero)
-    ∷ (meets c t q, no-point-met)
-    ∷ (not (eqZ (weighted c t mass q) (pos 0)), no-mass-met)
-    ∷ [])
+codeBy c t mass q = first (positionTests q ++ metTests (meets c t q) (weighted c t mass q))
 
 -- "with value 0 beside any code but 0"
 abbrev pub beside : ℕ → ℤ → ℤ

@@ -7,9 +7,11 @@ use Prim.Native.Nat.{ℕ, zero, suc, _+_, _*_, _/_, _%_}
 use lib.Dec.{eqb}
 use lib.IntN.{ℤ}
 use lib.ListN.{length}
+use denote.Ref.{now}
 use Rattle.whole.specs.Lists.{at, tab}
 use Rattle.table.specs.Table.{Settings, Table}
 use Rattle.table.specs.Calls.{callRefusal}
+use Rattle.table.specs.Heads.{Slice}
 use Rattle.blur.specs.Sheet.{blurredSheet, clearSheet}
 use Rattle.filter.specs.Answer.{code, answer}
 
@@ -25,14 +27,14 @@ abbrev pub queryAt : ℕ → List ℤ → ℕ → List ℤ
 queryAt d l j = tab (suc d) (λ i. at l (suc d * j + i))
 
 -- how many there are
-abbrev pub queriesIn : ℕ → ℕ → ℕ
-queriesIn d numbers = numbers / suc d
+abbrev pub queryCount : ℕ → ℕ → ℕ
+queryCount d numbers = numbers / suc d
 
 -- what number 2 asks of the rest that is lent, in slices of so many numbers: "two work sheets of 2·C", queries that are "whole items", and "one value …
 -- and one code … per query"
 unfoldable pub lentFits : ℕ → ℕ → ℕ → ℕ → ℕ → ℕ → ℕ → Bool
 lentFits d C first second queries values codes =
-    eqb first (2 * C) && eqb second (2 * C) && eqb (queries % suc d) 0 && (eqb values (queriesIn d queries) && eqb codes (queriesIn d queries))
+    eqb first (2 * C) && eqb second (2 * C) && eqb (queries % suc d) 0 && (eqb values (queryCount d queries) && eqb codes (queryCount d queries))
 
 -- "1, 2, 3 for the call"
 abbrev pub filterRefusal : Settings → Table → List ℤ → Lent → ℕ
@@ -44,8 +46,8 @@ unfoldable pub filtered : Settings → Table → List ℤ → Lent
 filtered c t queries = record {
   first = blurredSheet c t;
   second = clearSheet c;
-  values = tab (queriesIn (c .d) (length queries)) (λ j. answer c t (queryAt (c .d) queries j));
-  codes = tab (queriesIn (c .d) (length queries)) (λ j. code c t (queryAt (c .d) queries j));
+  values = tab (queryCount (c .d) (length queries)) (λ j. answer c t (queryAt (c .d) queries j));
+  codes = tab (queryCount (c .d) (length queries)) (λ j. code c t (queryAt (c .d) queries j));
 }
 
 -- "A call refused as a whole … changes no lent memory."
@@ -59,3 +61,9 @@ pub record Filters (c : Settings) (t : Table) (queries : List ℤ) (l : Lent) (n
   pub second-is : second ≡ afterFilter c t queries l .second
   pub values-are : values ≡ afterFilter c t queries l .values
   pub codes-are : codes ≡ afterFilter c t queries l .codes
+
+-- `Filters` of the sheets and lists that are lent, before and after the call
+abbrev pub FiltersIn : Settings → Table → List ℤ → ℕ → Slice ℤ → Slice ℤ → Slice ℤ → Slice ℕ → Type 0
+FiltersIn c t queries number first second values codes =
+    let l : Lent = record { first = now (first .entry); second = now (second .entry); values = now (values .entry); codes = now (codes .entry) } in
+    Filters c t queries l number (now (first .exit)) (now (second .exit)) (now (values .exit)) (now (codes .exit))

@@ -1,7 +1,7 @@
 -- What the functions that answer queries ask of one another and leave. The sums of the table here are a sheet of blurred pairs.
 use mathlib.Core.Path.{_≡_}
 use mathlib.Core.Bool.{Bool, not, cond, _&&_}
-use mathlib.Core.List.{List, [], _∷_}
+use mathlib.Core.List.{List}
 use Prim.Native.Nat.{ℕ, suc, _<_}
 use lib.Dec.{leb}
 use lib.IntN.{ℤ, pos, negℤ, natAbs, _*ℤ_}
@@ -11,16 +11,16 @@ use Rattle.whole.specs.Size.{Abs≤}
 use Rattle.whole.specs.Rounding.{rounded, most-fraction}
 use Rattle.whole.specs.Sum.{over}
 use Rattle.whole.specs.Lists.{at, tab, collect}
-use Rattle.lattice.specs.Limits.{most-d, most-C, most-W, most-value}
-use Rattle.lattice.specs.Refusals.{first, no-point-met, no-mass-met}
+use Rattle.lattice.specs.Limits.{most-d, most-coords, most-C, most-W, most-value}
+use Rattle.lattice.specs.Refusals.{first}
 use Rattle.lattice.specs.Lattice.{Point}
-use Rattle.simplex.specs.Slots.{slot}
+use Rattle.simplex.specs.Slots.{slot-numbers, slot}
 use Rattle.index.specs.Keys.{eqZ}
 use Rattle.table.specs.Table.{Settings, Table, key, mass, value, whole}
 use Rattle.blur.specs.Blur.{isStored, masses, values}
 use Rattle.blur.specs.Inner.{most-blurred, Readable}
-use Rattle.filter.specs.Answer.{codeBy, beside, valueBy}
-use Rattle.filter.specs.Filter.{queryAt, queriesIn, lentFits}
+use Rattle.filter.specs.Answer.{metTests, codeBy, beside, valueBy}
+use Rattle.filter.specs.Filter.{queryAt, queryCount, lentFits}
 
 -- 1 at a stored point, and 0 elsewhere
 abbrev pub ones : Settings → Table → List ℤ → ℤ
@@ -40,13 +40,13 @@ pub record WeighedIs (c : Settings) (t : Table) (ps : List (List ℤ × ℕ)) (w
 pub record Weighable (c : Settings) (t : Table) (weights : List ℕ) (coords : List ℤ) : Type 0 where
   pub readable : Readable c t
   pub small : (j : ℕ) → Abs≤ (at (t .sums) j) most-blurred
-  pub weights-size : length weights ≡ 6
-  pub coords-size : length coords ≡ 36
+  pub weights-size : length weights ≡ most-coords
+  pub coords-size : length coords ≡ slot-numbers
   pub light : over (collect (suc (c .d)) (slot (c .d) weights coords)) (λ p. pos (p .1)) ≤ℤ pos most-W
 
 -- 10 and 11 of "4, 5, 10, 11", by the weights of the stored points and by their mass sum
 unfoldable pub sumsCode : ℤ → ℤ → ℕ
-sumsCode weight mass = first ((not (eqZ weight (pos 0)), no-point-met) ∷ (not (eqZ mass (pos 0)), no-mass-met) ∷ [])
+sumsCode weight mass = first (metTests (not (eqZ weight (pos 0))) mass)
 
 -- the rounded quotient, and 0 beside a code
 unfoldable pub sumsValue : ℤ → ℤ → ℤ → ℤ
@@ -87,13 +87,13 @@ pub record ReplyIs (c : Settings) (t : Table) (q : List ℤ) (value : ℤ) (code
 -- Such a table, and one value and one code for each query.
 pub record Answerable (c : Settings) (t : Table) (queries values : List ℤ) (codes : List ℕ) : Type 0 where
   pub smooth : Smooth c t
-  pub values-size : length values ≡ queriesIn (c .d) (length queries)
-  pub codes-size : length codes ≡ queriesIn (c .d) (length queries)
+  pub values-size : length values ≡ queryCount (c .d) (length queries)
+  pub codes-size : length codes ≡ queryCount (c .d) (length queries)
 
 -- the values and the codes of all queries
 pub record RepliesAre (c : Settings) (t : Table) (queries values′ : List ℤ) (codes : List ℕ) : Type 0 where
-  pub values-are : values′ ≡ tab (queriesIn (c .d) (length queries)) (λ j. valueBy c t (masses c t) (values c t) (queryAt (c .d) queries j))
-  pub codes-are : codes ≡ tab (queriesIn (c .d) (length queries)) (λ j. codeBy c t (masses c t) (queryAt (c .d) queries j))
+  pub values-are : values′ ≡ tab (queryCount (c .d) (length queries)) (λ j. valueBy c t (masses c t) (values c t) (queryAt (c .d) queries j))
+  pub codes-are : codes ≡ tab (queryCount (c .d) (length queries)) (λ j. codeBy c t (masses c t) (queryAt (c .d) queries j))
 
 -- the lengths, tested for settings that may be out of range: nothing wraps then
 unfoldable pub lentFitsRanged : ℕ → ℕ → ℕ → ℕ → ℕ → ℕ → ℕ → Bool

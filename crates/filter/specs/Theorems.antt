@@ -14,7 +14,7 @@ use Rattle.lattice.specs.Position.{Position, judged}
 use Rattle.table.specs.Table.{Settings, Table, held}
 use Rattle.table.specs.Reading.{parsed}
 use Rattle.table.specs.Calls.{ranged, fresh, enter, afterMerge}
-use Rattle.table.specs.Theorems.{Usable}
+use Rattle.table.specs.Sound.{Fine}
 use Rattle.blur.specs.Blur.{masses, values, blurredMass, blurredValue}
 use Rattle.blur.specs.Theorems.{Between}
 use Rattle.filter.specs.Answer.{weightOf, weighted, code, answer}
@@ -28,31 +28,32 @@ pub record Coded (c : Settings) (t : Table) (q : List ℤ) : Type 0 where
   pub none : code c t q ≡ 0 ↔ Position (c .d) q × ((i : ℕ) × (i < t .m) × (0 < weightOf c t q i))
 
 abbrev pub CodedRight : Type 0
-CodedRight = (c : Settings) (t : Table) → Usable c t → (q : List ℤ) → length q ≡ suc (c .d) → Coded c t q
+CodedRight = (c : Settings) (t : Table) → Fine c t → (q : List ℤ) → length q ≡ suc (c .d) → Coded c t q
 
 -- 11 is never met on a sound table
 abbrev pub NeverEleven : Type 0
-NeverEleven = (c : Settings) (t : Table) → Usable c t → (q : List ℤ) → code c t q ≡ no-mass-met → ⊥
+NeverEleven = (c : Settings) (t : Table) → Fine c t → (q : List ℤ) → code c t q ≡ no-mass-met → ⊥
 
--- each value sum of the table lies between lo and hi times its mass, as it does where every value entered lies between lo and hi. So it is in a fresh table,
+-- each value sum of the table lies between lo and hi times its mass, as it does where every value entered lies between lo and hi
 abbrev pub ValuesBetween : ℤ → ℤ → Settings → Table → Type 0
 ValuesBetween lo hi c t = Between lo hi (masses c t) (values c t)
 
+-- in a fresh table each value sum lies between lo and hi times its mass
 abbrev pub FreshBetween : Type 0
 FreshBetween = (lo hi : ℤ) (c : Settings) → T (ranged c) → ValuesBetween lo hi c (fresh c)
 
--- after any call of enter that took only readings whose values do,
+-- a call of enter that took only readings with values between lo and hi keeps each value sum between lo and hi times its mass
 abbrev pub EnterBetween : Type 0
 EnterBetween = (lo hi : ℤ) (c : Settings) (t : Table) (l : List ℤ) → ValuesBetween lo hi c t
     → All (λ r. Within lo hi (r .value)) (take ((enter c t l) .taken) (parsed (c .d) l)) → ValuesBetween lo hi c ((enter c t l) .table)
 
--- and after any merge of two such tables;
+-- a merge of two tables with each value sum between lo and hi times its mass leaves such a table
 abbrev pub MergeBetween : Type 0
 MergeBetween = (lo hi : ℤ) (c : Settings) (t : Table) (b : Settings) (s : Table) → ValuesBetween lo hi c t → ValuesBetween lo hi b s → ValuesBetween lo hi c (afterMerge c t b s)
 
--- and an answer given lies between lo and hi
+-- where each value sum lies between lo and hi times its mass, an answer given lies between lo and hi
 abbrev pub AnswerBetween : Type 0
-AnswerBetween = (lo hi : ℤ) (c : Settings) (t : Table) → Usable c t → ValuesBetween lo hi c t
+AnswerBetween = (lo hi : ℤ) (c : Settings) (t : Table) → Fine c t → ValuesBetween lo hi c t
     → (q : List ℤ) → code c t q ≡ 0 → Within lo hi (answer c t q)
 
 -- "384·4,096·1,000,000·4^6·384 is below 2.5·10^18": nothing leaves 64 bits
@@ -61,7 +62,7 @@ pub record SumsFit (c : Settings) (t : Table) (q : List ℤ) : Type 0 where
   pub value-fits : Abs≤ (weighted c t (blurredValue c t) q) most-fraction
 
 abbrev pub AnswersFit : Type 0
-AnswersFit = (c : Settings) (t : Table) → Usable c t → (q : List ℤ) → SumsFit c t q
+AnswersFit = (c : Settings) (t : Table) → Fine c t → (q : List ℤ) → SumsFit c t q
 
 -- the answer and the code at a place depend only on the table's map, not on the order in which points are stored, nor on the room
 pub record SameAnswer (c : Settings) (t : Table) (b : Settings) (s : Table) (q : List ℤ) : Type 0 where
@@ -69,5 +70,5 @@ pub record SameAnswer (c : Settings) (t : Table) (b : Settings) (s : Table) (q :
   pub same-value : answer c t q ≡ answer b s q
 
 abbrev pub AnswerOfMap : Type 0
-AnswerOfMap = (c : Settings) (t : Table) (b : Settings) (s : Table) → Usable c t → Usable b s → c .d ≡ b .d → c .S ≡ b .S
+AnswerOfMap = (c : Settings) (t : Table) (b : Settings) (s : Table) → Fine c t → Fine b s → c .d ≡ b .d → c .S ≡ b .S
     → ((y : List ℤ) → held c t y ≡ held b s y) → (q : List ℤ) → SameAnswer c t b s q

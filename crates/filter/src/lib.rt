@@ -2,8 +2,8 @@
 // answers are stands in specs/; that they lie between the values entered and depend on the table's
 // map alone, in proofs/.
 ghost use mathlib.Core.Path.{_≡_};
-ghost use Rattle.table.specs.Heads.{settings, table};
-ghost use Rattle.filter.specs.Filter.{Lent, Filters};
+ghost use Rattle.table.specs.Heads.{settings, tableIn};
+ghost use Rattle.filter.specs.Filter.{FiltersIn};
 ghost use Rattle.filter.specs.Inner.{lentFitsRanged};
 
 pub mod reply;
@@ -68,9 +68,8 @@ pub fn filter(
     codes: &mut [u8],
 ) -> u8
     ensures { λ r. ⌜
-        (let t = table head (now (keys .entry)) (now (sums .entry)) (now (index .entry)) in
-        let l : Lent = record { first = now (first .entry); second = now (second .entry); values = now (values .entry); codes = now (codes .entry) } in
-        Filters (settings head) t (now (queries .entry)) l r (now (first .exit)) (now (second .exit)) (now (values .exit)) (now (codes .exit)))
+        (let t = tableIn head keys sums index in
+        FiltersIn (settings head) t (now (queries .entry)) r first second values codes)
         ⌝ }
 {
     let more = lent_fits(

@@ -7,10 +7,11 @@ ghost use Rattle.whole.specs.Size.{Abs≤};
 ghost use Rattle.whole.specs.Lists.{collect};
 ghost use Rattle.lattice.specs.Limits.{most-W};
 ghost use Rattle.simplex.specs.Slots.{slot};
-ghost use Rattle.table.specs.Heads.{settings, table};
+ghost use Rattle.table.specs.Heads.{settings, table, tableIn};
 ghost use Rattle.blur.specs.Inner.{most-blurred};
 ghost use Rattle.filter.specs.Inner.{WeighedIs, Weighable};
 use blur::pair::pair_of;
+use lattice::limits::MOST_COORDS;
 use table::Head;
 
 // The weights of the points that are stored, and weight times mass and weight times value sum, summed
@@ -43,11 +44,11 @@ fn weigh_slot(
     requires { ⌜ Weighable (settings head) (table head (now keys) (now sheet) (now index)) (now weights) (now coords) ⌝ }
     requires { ⌜ k < suc (head .d) ⌝ }
     ensures { λ r. ⌜
-        (let t = table head (now (keys .entry)) (now (sheet .entry)) (now (index .entry)) in
+        (let t = tableIn head keys sheet index in
         WeighedIs (settings head) t (slot (head .d) (now (weights .entry)) (now (coords .entry)) k) (r .weight) (r .mass) (r .value))
         ⌝ }
 {
-    let start = 6 * k;
+    let start = MOST_COORDS * k;
     let end = start + head.d;
     let pair = pair_of(head, keys, index, sheet, &coords[start..end]);
     if !pair.stored {
@@ -76,7 +77,7 @@ pub fn weigh(
 ) -> Weighed
     requires { ⌜ Weighable (settings head) (table head (now keys) (now sheet) (now index)) (now weights) (now coords) ⌝ }
     ensures { λ r. ⌜
-        (let t = table head (now (keys .entry)) (now (sheet .entry)) (now (index .entry)) in
+        (let t = tableIn head keys sheet index in
         WeighedIs (settings head) t (collect (suc (head .d)) (slot (head .d) (now (weights .entry)) (now (coords .entry)))) (r .weight) (r .mass) (r .value))
         ⌝ }
 {

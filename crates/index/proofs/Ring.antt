@@ -2,8 +2,8 @@
 use mathlib.Core.Path.{_≡_, refl, sym, ap, _∙_}
 use mathlib.Core.Logic.{_≢_}
 use mathlib.Core.Bool.{Bool, true, false, cond}
-use Prim.Native.Nat.{ℕ, zero, suc, _+_, _-_, _≤_, _<_}
-use native.Mathlib.Nat.{not-suc-le-zero, le-of-suc-le-suc, add-zero, zero-add}
+use Prim.Native.Nat.{ℕ, zero, suc, _+_, _-_, _%_, _≤_, _<_}
+use native.Mathlib.Nat.{not-suc-le-zero, le-of-suc-le-suc, add-zero, zero-add, mod-eq-of-lt, add-mod-left}
 use native.Mathlib.Decide.{decLt, ℕ-discrete}
 use native.Mathlib.Omega.{arith}
 use lib.Dec.{T, eqb, eqb→eq, eqb-refl}
@@ -69,6 +69,16 @@ next-lt places p l = go (ℕ-discrete (suc p) places)
     go (yes e) = omega (arith, next-end places p e)
     go (no h) = omega (arith, next-other places p h)
 
+-- the walk stays among the places
+pub walk-lt : (places : ℕ) (stop : ℕ → Bool) (steps p : ℕ) → p < places → walk places stop steps p < places
+unfolding walk
+walk-lt places stop zero p l = l
+walk-lt places stop (suc steps) p l = go (stop p) (walk-lt places stop steps (next places p) (next-lt places p l))
+  where
+    go : (b : Bool) → walk places stop steps (next places p) < places → cond b p (walk places stop steps (next places p)) < places
+    go true r = l
+    go false r = r
+
 pub ring-lt : (places p k : ℕ) → p < places → ring places p k < places
 unfolding ring
 ring-lt places p zero l = l
@@ -98,6 +108,21 @@ ring-to places p q l m = go (decLt q p)
           ∙ ap (λ (r : ℕ). ring places r q) (next-end places (p + (places - p - 1)) (omega arith))
           ∙ ring-up places 0 q (omega arith) ∙ zero-add q,
     )
+
+-- so many places further, counted from 0
+pub ring-mod : (places p k : ℕ) → p < places → ring places p k ≡ (p + k) % places
+unfolding ring
+ring-mod places p zero l = rw (add-zero p) (sym (mod-eq-of-lt l))
+ring-mod places p (suc k) l = go (ℕ-discrete (suc p) places) (λ q. ring-mod places q k)
+  where
+    go : Dec (suc p ≡ places) → ((q : ℕ) → q < places → ring places q k ≡ (q + k) % places) → ring places (next places p) k ≡ (p + suc k) % places
+    go (yes e) ih =
+        let q : places + k ≡ p + suc k = omega arith in
+        ap (λ (r : ℕ). ring places r k) (next-end places p e) ∙ ih 0 (omega arith) ∙ ap (λ (n : ℕ). n % places) (zero-add k)
+        ∙ sym (add-mod-left places k) ∙ ap (λ (n : ℕ). n % places) q
+    go (no h) ih =
+        let q : suc p + k ≡ p + suc k = omega arith in
+        ap (λ (r : ℕ). ring places r k) (next-other places p h) ∙ ih (suc p) (omega arith) ∙ ap (λ (n : ℕ). n % places) q
 
 -- ---- a walk that meets a stop needs no count of its steps: how far it still goes is a number that falls
 unfoldable pub ahead : ℕ → (ℕ → Bool) → ℕ → ℕ → ℕ

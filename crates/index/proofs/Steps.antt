@@ -9,6 +9,7 @@ use native.Mathlib.Decide.{decLt}
 use native.Mathlib.Omega.{arith}
 use lib.ListN.{length, take, drop, List·getD-eq-default}
 use lib.IntN.{ℤ}
+use Rattle.lattice.specs.Limits.{most-C}
 use Rattle.index.specs.Keys.{same, keyAt, home}
 use Rattle.index.specs.Search.{next, walk, entryAt, stops, search, Searchable}
 use Rattle.index.specs.Indexed.{Sparse}
@@ -75,12 +76,12 @@ module _ (keys : List ℤ) (index : List ℕ) (key : List ℤ) (places : ℕ) wh
     falls p t l z n e y = ahead-falls places (stop keys index key) hole inside halt p l (stops-taken keys key (entryAt index p) t z n e ∙ y)
 
 -- an entry past the end reads as 0, which names no point
-pub searchable : (C m : ℕ) (keys : List ℤ) (index : List ℕ) (key : List ℤ) → 0 < C → C ≤ 8192 → length index ≡ 2 * C
-    → length keys ≡ length key * C → Sparse C m (entryAt index) → Searchable C keys index key
-searchable C m keys index key some small places size Q =
-    let g = gap C m (λ i. key) (entryAt index) some Q in
+pub searchable : (d C m : ℕ) (keys : List ℤ) (index : List ℕ) → 0 < C → C ≤ most-C → length index ≡ 2 * C
+    → length keys ≡ d * C → Sparse C m (entryAt index) → Searchable d C keys index
+searchable d C m keys index some small places size Q =
+    let g = gap C m (keyAt d keys) (entryAt index) some Q in
     record { small = small; places = places; hole = g .0; hole-inside = g .1; hole-empty = g .2; named = λ p. named p (decLt p (2 * C)) }
   where
-    named : (p : ℕ) → Dec (p < 2 * C) → length key * entryAt index p ≤ length keys
-    named p (yes l) = let low : entryAt index p ≤ C = omega (arith, Q .low p l, Q .room) in rw size (mul-le-mul-left (length key) low)
+    named : (p : ℕ) → Dec (p < 2 * C) → d * entryAt index p ≤ length keys
+    named p (yes l) = let low : entryAt index p ≤ C = omega (arith, Q .low p l, Q .room) in rw size (mul-le-mul-left d low)
     named p (no l) = rw (List·getD-eq-default index 0 {n = p} (omega arith)) (omega arith)

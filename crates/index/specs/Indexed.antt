@@ -17,9 +17,9 @@ count (suc n) f = count n f + cond (f n) 1 0
 abbrev pub used : (ℕ → ℕ) → ℕ → Bool
 used entry p = not (eqb (entry p) 0)
 
--- "every index entry is 0 to m and exactly m are not 0"
+-- "every index entry is 0 to m and exactly m are not 0", of so many places
 unfoldable pub sparse : ℕ → ℕ → (ℕ → ℕ) → Bool
-sparse C m entry = all (2 * C) (λ p. leb (entry p) m) && eqb (count (2 * C) (used entry)) m
+sparse places m entry = all places (λ p. leb (entry p) m) && eqb (count places (used entry)) m
 
 -- "searching for each of the m keys finds that same point"
 unfoldable pub finding : ℕ → ℕ → (ℕ → List ℤ) → (ℕ → ℕ) → Bool

@@ -4,8 +4,12 @@ use mathlib.Core.Logic.{_↔_, _≢_}
 use mathlib.Core.List.{List}
 use Prim.Native.Nat.{ℕ, suc, _*_, _<_}
 use lib.IntN.{ℤ}
-use Rattle.index.specs.Search.{search}
+use Rattle.index.specs.Search.{search, Ends, FirstEnd}
 use Rattle.index.specs.Indexed.{Indexed}
+
+-- "stops at the first index place that is empty or names the point", where there is one among the 2·C
+abbrev pub StopsAtFirst : Type 0
+StopsAtFirst = (C : ℕ) (key : ℕ → List ℤ) (entry : ℕ → ℕ) (k : List ℤ) (p : ℕ) → p < 2 * C → Ends key entry k p → FirstEnd C key entry k (search C key entry k)
 
 -- searching for a key finds exactly the point that has it
 abbrev pub FindsExactly : Type 0

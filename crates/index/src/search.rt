@@ -23,7 +23,7 @@ fn next_place(at: usize, places: usize) -> usize
 // The place of the point that has the key, or else the empty place where the search for it ends. An
 // empty place is somewhere in the index, so the walk ends without a count of its steps.
 pub fn search(keys: &[i32], index: &[u16], capacity: usize, key: &[i32]) -> usize
-    requires { ⌜ Searchable capacity (now keys) (now index) (now key) ⌝ }
+    requires { ⌜ Searchable (length (now key)) capacity (now keys) (now index) ⌝ }
     ensures { λ r. ⌜ r ≡ search capacity (keyAt (length (now (key .entry))) (now (keys .entry))) (entryAt (now (index .entry))) (now (key .entry)) ⌝ }
 {
     let places = index.len();

@@ -4,5 +4,6 @@ pub mod Corners
 pub mod Points
 pub mod Only
 pub mod Reach
+pub mod Tests
 pub mod Judging
 pub mod Starred

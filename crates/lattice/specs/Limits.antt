@@ -5,6 +5,10 @@ use Prim.Native.Nat.{ℕ}
 abbrev pub most-d : ℕ
 most-d = 5
 
+-- the most coordinates of a position and of a lattice point, which have d+1
+abbrev pub most-coords : ℕ
+most-coords = 6
+
 -- "Fineness S: 1 to 64."
 abbrev pub most-S : ℕ
 most-S = 64

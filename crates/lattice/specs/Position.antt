@@ -11,7 +11,7 @@ use Rattle.whole.specs.Size.{Abs≤}
 use Rattle.whole.specs.Sum.{sum, all}
 use Rattle.whole.specs.Lists.{at}
 use Rattle.lattice.specs.Limits.{farthest}
-use Rattle.lattice.specs.Refusals.{first, coordinate-beyond, sum-not-zero}
+use Rattle.lattice.specs.Refusals.{Tests, first, coordinate-beyond, sum-not-zero}
 
 -- "A position is d+1 signed 32-bit numbers with sum 0, each from -1,000,000 to 1,000,000."
 pub record Position (d : ℕ) (x : List ℤ) : Type 0 where
@@ -27,9 +27,13 @@ allNear x = all (length x) (λ i. leb (natAbs (at x i)) farthest)
 unfoldable pub sumsToZero : List ℤ → Bool
 sumsToZero x = eqb (natAbs (sum (length x) (at x))) 0
 
--- 4 before 5, and 0 for a position
+-- what is tested of a position: 4 before 5
+abbrev pub positionTests : List ℤ → Tests
+positionTests x = (allNear x, coordinate-beyond) ∷ (sumsToZero x, sum-not-zero) ∷ []
+
+-- the number of a list of coordinates, and 0 for a position
 unfoldable pub judged : List ℤ → ℕ
-judged x = first ((allNear x, coordinate-beyond) ∷ (sumsToZero x, sum-not-zero) ∷ [])
+judged x = first (positionTests x)
 
 -- Statement: each number is met exactly when its condition holds and no earlier one does.
 pub record Judged (d : ℕ) (x : List ℤ) : Type 0 where

@@ -3,8 +3,12 @@ use mathlib.Core.Bool.{Bool, true, false}
 use mathlib.Core.List.{List, [], _∷_}
 use Prim.Native.Nat.{ℕ}
 
+-- tests in their order, each with the number that is told where it fails
+abbrev pub Tests : Type 0
+Tests = List (Bool × ℕ)
+
 -- the number of the first test that fails, and 0 where none does
-unfoldable pub first : List (Bool × ℕ) → ℕ
+unfoldable pub first : Tests → ℕ
 first [] = 0
 first ((true, k) ∷ rest) = first rest
 first ((false, k) ∷ rest) = k

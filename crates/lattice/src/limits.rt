@@ -10,6 +10,9 @@ pub const FARTHEST_POINT: u32 = 1000005;
 // Dimension d: 1 to 5.
 pub const MOST_D: usize = 5;
 
+// The most coordinates of a position and of a lattice point, which have d + 1.
+pub const MOST_COORDS: usize = 6;
+
 // Fineness S: 1 to 64.
 pub const MOST_FINENESS: u32 = 64;
 

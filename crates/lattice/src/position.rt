@@ -4,6 +4,7 @@ ghost use Prim.Native.Nat.{_≤_};
 ghost use lib.ListN.{length};
 ghost use Rattle.whole.specs.Sum.{sum};
 ghost use Rattle.whole.specs.Lists.{at};
+ghost use Rattle.lattice.specs.Limits.{most-coords};
 ghost use Rattle.lattice.specs.Position.{allNear, judged};
 use crate::limits::FARTHEST;
 use crate::refusals::COORDINATE_BEYOND;
@@ -24,7 +25,7 @@ fn all_near(x: &[i32]) -> bool
 
 // In 64 bits, so that no sum of six coordinates wraps, however far each is.
 fn coordinate_sum(x: &[i32]) -> i64
-    requires { ⌜ length (now x) ≤ 6 ⌝ }
+    requires { ⌜ length (now x) ≤ most-coords ⌝ }
     ensures { λ r. ⌜ r ≡ sum (length (now (x .entry))) (at (now (x .entry))) ⌝ }
 {
     let n = x.len();
@@ -38,7 +39,7 @@ fn coordinate_sum(x: &[i32]) -> i64
 
 // 0 for a position, else the number of the first refusal that is met.
 pub fn judge(x: &[i32]) -> u8
-    requires { ⌜ length (now x) ≤ 6 ⌝ }
+    requires { ⌜ length (now x) ≤ most-coords ⌝ }
     ensures { λ r. ⌜ r ≡ judged (now (x .entry)) ⌝ }
 {
     if !all_near(x) {

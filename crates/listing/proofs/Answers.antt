@@ -1,20 +1,15 @@
 -- What the call answers: its number, and the list left as it was or filled. Assumes nothing.
 use mathlib.Core.Path.{_≡_, refl, sym, ap, _∙_}
 use mathlib.Core.Logic.{_≢_}
-use mathlib.Core.Bool.{_&&_}
 use mathlib.Core.List.{List, _++_}
 use Prim.Native.Nat.{ℕ, zero, suc, _-_}
 use native.Mathlib.Nat.{mul-le-mul-left}
 use native.Mathlib.Omega.{arith}
 use lib.Dec.{eqb, eqb→eq}
 use lib.ListN.{length, replicate}
-use Rattle.whole.proofs.Tests.{and-l, and-r}
 use Rattle.table.specs.Table.{Settings, Table}
-use Rattle.table.specs.Sound.{sound}
-use Rattle.table.specs.Calls.{ranged, fits, callRefusal}
-use Rattle.table.specs.Theorems.{Usable}
-use Rattle.table.proofs.Refusals.{first-zero}
-use Rattle.table.proofs.Soundness.{to-fine}
+use Rattle.table.specs.Sound.{Fine}
+use Rattle.table.proofs.Keeping.{called}
 use Rattle.listing.specs.Listing.{order, listRefusal, afterList, Lists}
 use Rattle.listing.specs.Inner.{inOrder, Listable}
 use Rattle.listing.proofs.Listings.{usable-apart}
@@ -29,16 +24,11 @@ module _ (c : Settings) (t : Table) (list : List ℕ) where
       go (suc x) e n = sym (rw (← e, afterList))
 
   module _ {number : ℕ} (e : number ≡ listRefusal c t list) (z : number ≡ 0) where
-    usable : Usable c t × (length list ≡ c .C)
-    unfolding callRefusal
-    usable =
-        let a = first-zero (ranged c) 0 _ (sym e ∙ z) in
-        let b = first-zero (fits c t && eqb (length list) (c .C)) 1 _ (a .1) in
-        let d = first-zero (sound c t) 2 _ (b .1) in
-        (record { in-range = a .0; lengths = and-l (fits c t) (eqb (length list) (c .C)) (b .0); is-sound = d .0 }, eqb→eq (length list) (c .C) (and-r (fits c t) (eqb (length list) (c .C)) (b .0)))
+    usable : Fine c t × (length list ≡ c .C)
+    usable = let C = called c t (eqb (length list) (c .C)) (sym e ∙ z) in (C .fine, eqb→eq (length list) (c .C) (C .whole))
 
     pub listable : Listable (c .d) (t .keys) (t .m) list
-    listable = let F = to-fine c t (usable .0) in let m = F .sound .indexed .sparse .room in record {
+    listable = let F = usable .0 in let m = F .sound .indexed .sparse .room in record {
       inside = omega (arith, F .shape .keys, mul-le-mul-left (c .d) m);
       room = omega (arith, usable .1, m);
       small = omega (arith, F .ranged .C-most, m);

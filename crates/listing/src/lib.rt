@@ -1,7 +1,7 @@
 // The listing: the point numbers of a table in the order of their keys. What a listing is, and what
 // the call leaves, stands in specs/; that there is one listing of a table, in proofs/.
-ghost use Rattle.table.specs.Heads.{settings, table};
-ghost use Rattle.listing.specs.Listing.{Lists};
+ghost use Rattle.table.specs.Heads.{settings, tableIn};
+ghost use Rattle.listing.specs.Listing.{ListsIn};
 
 mod compare;
 mod fill;
@@ -14,8 +14,8 @@ use crate::fill::fill;
 // so on, ascending, then 0 in the rest; refused, it is left as it was.
 pub fn list(head: table::Head, keys: &[i32], sums: &[i64], index: &[u16], list: &mut [u16]) -> u8
     ensures { λ r. ⌜
-        (let t = table head (now (keys .entry)) (now (sums .entry)) (now (index .entry)) in
-        Lists (settings head) t (now (list .entry)) r (now (list .exit)))
+        (let t = tableIn head keys sums index in
+        ListsIn (settings head) t r list)
         ⌝ }
 {
     let more = list.len() == head.capacity;

@@ -1,6 +1,6 @@
 -- A merge: from its refusals to what counting and pouring ask, and to what is answered.
 use mathlib.Core.Path.{_≡_, refl, sym, ap, subst, _∙_}
-use mathlib.Core.List.{List, []}
+use mathlib.Core.List.{List}
 use Prim.Native.Nat.{ℕ, zero, suc, _+_, _≤_}
 use native.Mathlib.Nat.{le-refl, mul-le-mul}
 use native.Mathlib.Omega.{arith}
@@ -8,7 +8,7 @@ use lib.IntN.{ℤ}
 use Rattle.lattice.specs.Limits.{most-readings}
 use Rattle.table.specs.declared.Head.{Head}
 use Rattle.table.specs.Table.{Settings, Table, rows}
-use Rattle.table.specs.Pour.{pour, news}
+use Rattle.table.specs.Pour.{pour}
 use Rattle.table.specs.Heads.{settings, table, headOf, Holds, Answers}
 use Rattle.table.specs.Calls.{mergeRefusal, afterMerge}
 use Rattle.table.specs.Sound.{Fine}
@@ -16,8 +16,10 @@ use Rattle.table.specs.Inner.{InTurn}
 use Rattle.table.proofs.Turns.{in-turn, pour-n}
 use Rattle.table.proofs.Keeping.{mergeable, source-acceptable, acceptable-pours}
 use Rattle.table.proofs.Calls.{merge-done, merge-refused}
-use Rattle.merge.specs.Source.{firstRows, Stretches, Pouring}
-use Rattle.merge.proofs.Rows.{rows-all, news-keys}
+use Rattle.table.proofs.Soundness.{fine-searched}
+use Rattle.merge.specs.Source.{firstRows, Stretches, Comparable, RowsToPour}
+use Rattle.merge.proofs.Rows.{rows-all}
+use Rattle.merge.proofs.Refusing.{BothFine}
 
 -- ---- what is asked
 pub stretches-of : (d : ℕ) (b : Settings) (s : Table) → Fine b s → d ≡ b .d → Stretches d (s .keys) (s .m)
@@ -27,7 +29,17 @@ stretches-of d b s F e = subst (λ (d : ℕ). Stretches d (s .keys) (s .m)) (sym
   inside = omega (arith, F .shape .keys, mul-le-mul (le-refl (b .d)) (F .sound .indexed .sparse .room));
 }
 
-pub pouring : (c : Settings) (t : Table) (b : Settings) (s : Table) → mergeRefusal c t b s ≡ 0 → Pouring c t (s .keys) (s .sums) (s .m)
+pub comparable : (h : Head) (keys sums : List ℤ) (index : List ℕ) (s : Head) (keys′ sums′ : List ℤ) (index′ : List ℕ)
+    → BothFine (settings h) (table h keys sums index) (settings s) (table s keys′ sums′ index′) → Comparable h keys index s keys′
+comparable h keys sums index s keys′ sums′ index′ F = record {
+  searchable = fine-searched (settings h) (table h keys sums index) (F .target);
+  points-few = omega (arith, F .target .sound .indexed .sparse .room, F .target .ranged .C-most);
+  stretches = stretches-of (s .d) (settings s) (table s keys′ sums′ index′) (F .source) refl;
+  few = F .target .sound .few;
+  source-few = F .source .sound .few;
+}
+
+pub pouring : (c : Settings) (t : Table) (b : Settings) (s : Table) → mergeRefusal c t b s ≡ 0 → RowsToPour c t (s .keys) (s .sums) (s .m)
 pouring c t b s e =
     let M = mergeable c t b s e in
     record {
@@ -38,11 +50,6 @@ pouring c t b s e =
 
 pub readings-few : (c : Settings) (t : Table) (b : Settings) (s : Table) → mergeRefusal c t b s ≡ 0 → t .n + s .n ≤ most-readings
 readings-few c t b s e = mergeable c t b s e .few
-
--- ---- the source's points that are new, as they are counted
-pub counted-new : (h : Head) (keys sums : List ℤ) (index : List ℕ) (b : Settings) (s : Table) (k : ℕ) → h .d ≡ b .d
-    → k ≡ news (settings h) (table h keys [] index) (firstRows (h .d) (s .keys) [] (s .m)) → k ≡ news (settings h) (table h keys sums index) (rows b s)
-counted-new h keys sums index b s k e q = q ∙ news-keys h keys sums index (h .d) (s .keys) (s .sums) (s .m) ∙ ap (news (settings h) (table h keys sums index)) (sym (rows-all (h .d) b s e))
 
 -- ---- what is answered
 module _ (h : Head) (keys sums : List ℤ) (index : List ℕ) (b : Settings) (s : Table) where

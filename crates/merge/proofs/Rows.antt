@@ -13,14 +13,13 @@ use mir.Facts.{toZ-ofZ}
 use lib.ListN.{length, take, drop}
 use Rattle.whole.specs.Lists.{at, tab}
 use Rattle.table.specs.declared.Head.{Head}
-use Rattle.table.specs.Table.{Settings, Table, Row, rows, found}
-use Rattle.table.specs.Pour.{add, pour, news}
-use Rattle.table.specs.Heads.{settings, stored, table, Holds}
+use Rattle.table.specs.Table.{Settings, Table, Row, row, rows, keysOf}
+use Rattle.table.specs.Pour.{add, pour, oneIfNew, newsIn}
+use Rattle.table.specs.Heads.{settings, tableWith, Holds}
 use Rattle.table.specs.Inner.{Addable, InTurn}
-use Rattle.table.proofs.Lists.{tab-snoc, tab-parts}
+use Rattle.table.proofs.Lists.{tab-snoc, tab-parts, map-tab}
 use Rattle.table.proofs.Pouring.{news-snoc}
 use Rattle.table.proofs.Turns.{pour-turn, holds-of, holds-at}
-use Rattle.pour.specs.Inner.{oneIfNew}
 use Rattle.index.specs.Keys.{keyAt}
 use Rattle.index.specs.Search.{entryAt, search}
 use Rattle.index.proofs.Equality.{keyAt-length, stretch-fits, key-part}
@@ -78,30 +77,33 @@ module _ (d : ℕ) (keys sums : List ℤ) where
   row-addable c t u m i l Q e = subst (λ (u : Table). Addable c u (sourceRow d keys sums i)) (sym e)
       (Q .each (firstRows d keys sums i) (tab (m - suc i) (λ j. sourceRow d keys sums (i + suc j))) (sourceRow d keys sums i) (tab-parts m (sourceRow d keys sums) i l))
 
-  -- ---- counting
-  pub count-none : (c : Settings) (t : Table) → 0 ≡ news c t (firstRows d keys sums 0)
-  unfolding news
-  count-none c t = sym (ap (news c t) rows-none)
-
-  pub count-all : (c : Settings) (t : Table) (n i m : ℕ) → i ≡ m → n ≡ news c t (firstRows d keys sums i) → n ≡ news c t (firstRows d keys sums m)
-  count-all c t n i m q e = e ∙ ap (λ (k : ℕ). news c t (firstRows d keys sums k)) q
-
-  pub count-more : (c : Settings) (t : Table) (i n k : ℕ) → n ≡ news c t (firstRows d keys sums i) → k ≡ oneIfNew c (t .keys) (t .index) (keyAt d keys i)
-      → n + k ≡ news c t (firstRows d keys sums (i + 1))
-  count-more c t i n k e q = ap₂ _+_ e q ∙ sym (ap (news c t) (rows-more i) ∙ news-snoc c t (firstRows d keys sums i) (sourceRow d keys sums i))
-
 -- one row more is poured
 pub row-turn : (h : Head) (t : Table) (d : ℕ) (ks ss : List ℤ) (i points points′ : ℕ) (keys keys′ sums sums′ : List ℤ) (index index′ : List ℕ)
-    → stored h points keys sums index ≡ pour (settings h) t (firstRows d ks ss i) → Holds (add (settings h) (stored h points keys sums index) (sourceRow d ks ss i)) points′ keys′ sums′ index′
-    → stored h points′ keys′ sums′ index′ ≡ pour (settings h) t (firstRows d ks ss (i + 1))
+    → tableWith h points keys sums index ≡ pour (settings h) t (firstRows d ks ss i) → Holds (add (settings h) (tableWith h points keys sums index) (sourceRow d ks ss i)) points′ keys′ sums′ index′
+    → tableWith h points′ keys′ sums′ index′ ≡ pour (settings h) t (firstRows d ks ss (i + 1))
 unfolding pour
 row-turn h t d ks ss i points points′ keys keys′ sums sums′ index index′ e H =
     pour-turn (settings h) h t (firstRows d ks ss i) (sourceRow d ks ss i ∷ []) (firstRows d ks ss (i + 1)) points points′ keys keys′ sums sums′ index index′ e (holds-at H refl) (rows-more d ks ss i)
 
 -- all rows are poured
 pub ended : (h : Head) (t : Table) (d : ℕ) (ks ss : List ℤ) (i m : ℕ) → i ≡ m → (points : ℕ) (keys sums : List ℤ) (index : List ℕ)
-    → stored h points keys sums index ≡ pour (settings h) t (firstRows d ks ss i) → Holds (pour (settings h) t (firstRows d ks ss m)) points keys sums index
+    → tableWith h points keys sums index ≡ pour (settings h) t (firstRows d ks ss i) → Holds (pour (settings h) t (firstRows d ks ss m)) points keys sums index
 ended h t d ks ss i m q points keys sums index e = holds-of h (pour (settings h) t (firstRows d ks ss m)) points keys sums index (e ∙ ap (λ (k : ℕ). pour (settings h) t (firstRows d ks ss k)) q)
+
+-- ---- counting, in the target's keys and index
+module _ (c : Settings) (keys : List ℤ) (index : List ℕ) (d : ℕ) (source : List ℤ) where
+  pub count-none : 0 ≡ newsIn c keys index (tab 0 (keyAt d source))
+  unfolding newsIn tab
+  count-none = refl
+
+  pub count-all : (n i m : ℕ) → i ≡ m → n ≡ newsIn c keys index (tab i (keyAt d source)) → n ≡ newsIn c keys index (tab m (keyAt d source))
+  count-all n i m q e = e ∙ ap (λ (k : ℕ). newsIn c keys index (tab k (keyAt d source))) q
+
+  pub count-more : (i n k : ℕ) → n ≡ newsIn c keys index (tab i (keyAt d source)) → k ≡ oneIfNew c keys index (keyAt d source i)
+      → n + k ≡ newsIn c keys index (tab (i + 1) (keyAt d source))
+  count-more i n k e q =
+      let s : i + 1 ≡ suc i = omega arith in
+      ap₂ _+_ e q ∙ sym (ap (λ (j : ℕ). newsIn c keys index (tab j (keyAt d source))) s ∙ ap (newsIn c keys index) (tab-snoc i (keyAt d source)) ∙ news-snoc c keys index (tab i (keyAt d source)) (keyAt d source i))
 
 -- at most one more is counted
 pub one-most : (c : Settings) (keys : List ℤ) (index : List ℕ) (key : List ℤ) (k : ℕ) → k ≡ oneIfNew c keys index key → k ≤ 1
@@ -112,24 +114,12 @@ one-most c keys index key k e = go (eqb (entryAt index (search (c .C) (keyAt (c 
     go false e = omega (arith, e)
 
 -- no more are new than there are
-pub news-few : (c : Settings) (t : Table) (d : ℕ) (keys sums : List ℤ) (m n : ℕ) → n ≡ news c t (firstRows d keys sums m) → n ≤ m
-unfolding firstRows tab news
-news-few c t d keys sums m n e = omega (arith, e, go m (sourceRow d keys sums))
-  where
-    one : (b : Bool) → cond b 1 0 ≤ 1
-    one true = omega arith
-    one false = omega arith
+pub news-few : (c : Settings) (keys : List ℤ) (index : List ℕ) (m : ℕ) (f : ℕ → List ℤ) → newsIn c keys index (tab m f) ≤ m
+unfolding tab newsIn
+news-few c keys index zero f = omega arith
+news-few c keys index (suc m) f = omega (arith, one-most c keys index (f 0) _ refl, news-few c keys index m (λ i. f (suc i)))
 
-    go : (m : ℕ) (f : ℕ → Row) → news c t (tab m f) ≤ m
-    go zero f = omega arith
-    go (suc m) f = omega (arith, one (eqb (found c t (f 0 .key)) 0), go m (λ i. f (suc i)))
-
--- which rows are new does not depend on any pair
-pub news-keys : (h : Head) (keys sums : List ℤ) (index : List ℕ) (d : ℕ) (ks ss : List ℤ) (m : ℕ)
-    → news (settings h) (table h keys [] index) (firstRows d ks [] m) ≡ news (settings h) (table h keys sums index) (firstRows d ks ss m)
-unfolding firstRows tab news
-news-keys h keys sums index d ks ss m = go m (sourceRow d ks []) (sourceRow d ks ss) (λ i. refl)
-  where
-    go : (m : ℕ) (f g : ℕ → Row) → ((i : ℕ) → f i .key ≡ g i .key) → news (settings h) (table h keys [] index) (tab m f) ≡ news (settings h) (table h keys sums index) (tab m g)
-    go zero f g e = refl
-    go (suc m) f g e = ap₂ (λ (k : List ℤ) (n : ℕ). cond (eqb (found (settings h) (table h keys sums index) k) 0) 1 0 + n) (e 0) (go m (λ i. f (suc i)) (λ i. g (suc i)) (λ i. e (suc i)))
+-- the keys of a table's rows are the stretches of its keys
+pub keys-all : (d : ℕ) (b : Settings) (s : Table) → d ≡ b .d → keysOf (rows b s) ≡ tab (s .m) (keyAt d (s .keys))
+unfolding rows
+keys-all d b s e = map-tab (λ (r : Row). r .key) (s .m) (row b s) ∙ ap (λ (d : ℕ). tab (s .m) (keyAt d (s .keys))) (sym e)

@@ -1,9 +1,14 @@
 // The refusals of a merge, in their order.
 ghost use mathlib.Core.Path.{_≡_};
+ghost use Prim.Native.Nat.{_+_};
+ghost use Rattle.whole.specs.Lists.{tab};
+ghost use Rattle.index.specs.Keys.{keyAt};
 ghost use Rattle.table.specs.Calls.{mergeRefusal};
-ghost use Rattle.table.specs.Heads.{settings, table};
+ghost use Rattle.table.specs.Heads.{settings, tableIn};
+ghost use Rattle.table.specs.Pour.{newsIn};
 ghost use Rattle.merge.specs.Refusals.{eachRefusal, bothRefusal};
-use crate::source::count_new;
+ghost use Rattle.merge.specs.Source.{Comparable};
+use crate::source::new_rows;
 use lattice::limits::MOST_READINGS;
 use lattice::refusals::NOT_SOUND;
 use lattice::refusals::OTHER_LENGTH;
@@ -28,8 +33,8 @@ fn each_refusal(
     source_index: &[u16],
 ) -> u8
     ensures { λ r. ⌜
-        (let t = table head (now (keys .entry)) (now (sums .entry)) (now (index .entry)) in
-        let s = table source (now («source_keys» .entry)) (now («source_sums» .entry)) (now («source_index» .entry)) in
+        (let t = tableIn head keys sums index in
+        let s = tableIn source «source_keys» «source_sums» «source_index» in
         r ≡ eachRefusal (settings head) t (settings source) s)
         ⌝ }
 {
@@ -61,25 +66,12 @@ fn each_refusal(
 }
 
 // 9, 7 and 8, of two tables that are sound. Counting comes last: it takes a search for each row.
-fn both_refusal(
-    head: Head,
-    keys: &[i32],
-    sums: &[i64],
-    index: &[u16],
-    source: Head,
-    source_keys: &[i32],
-    source_sums: &[i64],
-    source_index: &[u16],
-) -> u8
-    requires { ⌜
-        (let t = table head (now keys) (now sums) (now index) in
-        let s = table source (now «source_keys») (now «source_sums») (now «source_index») in
-        eachRefusal (settings head) t (settings source) s ≡ 0)
-        ⌝ }
+fn both_refusal(head: Head, keys: &[i32], index: &[u16], source: Head, source_keys: &[i32]) -> u8
+    requires { ⌜ Comparable head (now keys) (now index) source (now «source_keys») ⌝ }
     ensures { λ r. ⌜
-        (let t = table head (now (keys .entry)) (now (sums .entry)) (now (index .entry)) in
-        let s = table source (now («source_keys» .entry)) (now («source_sums» .entry)) (now («source_index» .entry)) in
-        r ≡ bothRefusal (settings head) t (settings source) s)
+        (let n = head .readings + source .readings in
+        let m = head .points + newsIn (settings head) (now (keys .entry)) (now (index .entry)) (tab (source .points) (keyAt (source .d) (now («source_keys» .entry)))) in
+        r ≡ bothRefusal (settings head) (settings source) n m)
         ⌝ }
 {
     if head.d != source.d {
@@ -91,7 +83,7 @@ fn both_refusal(
     if MOST_READINGS < head.readings + source.readings {
         return TOO_MANY_READINGS;
     }
-    let count = count_new(head, keys, index, source_keys, source.points);
+    let count = new_rows(head, keys, index, source_keys, source.points);
     if head.capacity < head.points + count {
         return TOO_MANY_POINTS;
     }
@@ -99,7 +91,7 @@ fn both_refusal(
 }
 
 // The first that is met, else 0.
-pub fn refusal_of(
+pub fn merge_refusal(
     head: Head,
     keys: &[i32],
     sums: &[i64],
@@ -110,8 +102,8 @@ pub fn refusal_of(
     source_index: &[u16],
 ) -> u8
     ensures { λ r. ⌜
-        (let t = table head (now (keys .entry)) (now (sums .entry)) (now (index .entry)) in
-        let s = table source (now («source_keys» .entry)) (now («source_sums» .entry)) (now («source_index» .entry)) in
+        (let t = tableIn head keys sums index in
+        let s = tableIn source «source_keys» «source_sums» «source_index» in
         r ≡ mergeRefusal (settings head) t (settings source) s)
         ⌝ }
 {
@@ -128,14 +120,5 @@ pub fn refusal_of(
     if number != 0 {
         return number;
     }
-    both_refusal(
-        head,
-        keys,
-        sums,
-        index,
-        source,
-        source_keys,
-        source_sums,
-        source_index,
-    )
+    both_refusal(head, keys, index, source, source_keys)
 }

@@ -1,12 +1,12 @@
 // Merging: a source table is read, and each of its pairs is added to a target table in lent memory,
 // all or nothing. Both are judged before anything is written.
 ghost use Rattle.table.specs.Calls.{mergeRefusal, afterMerge};
-ghost use Rattle.table.specs.Heads.{settings, table, Answers};
+ghost use Rattle.table.specs.Heads.{settings, tableIn, AnswersIn};
 
 mod judging;
 mod source;
 
-use crate::judging::refusal_of;
+use crate::judging::merge_refusal;
 use crate::source::pour_rows;
 use table::Answer;
 use table::Head;
@@ -27,12 +27,12 @@ pub fn merge(
     ensures { λ r. ⌜
         (let c = settings head in
         let b = settings source in
-        let t = table head (now (keys .entry)) (now (sums .entry)) (now (index .entry)) in
-        let s = table source (now («source_keys» .entry)) (now («source_sums» .entry)) (now («source_index» .entry)) in
-        Answers c (mergeRefusal c t b s) (afterMerge c t b s) (r .number) (r .head) (now (keys .exit)) (now (sums .exit)) (now (index .exit)))
+        let t = tableIn head keys sums index in
+        let s = tableIn source «source_keys» «source_sums» «source_index» in
+        AnswersIn c (mergeRefusal c t b s) (afterMerge c t b s) (r .number) (r .head) keys sums index)
         ⌝ }
 {
-    let number = refusal_of(
+    let number = merge_refusal(
         head,
         keys,
         sums,

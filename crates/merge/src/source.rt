@@ -1,17 +1,17 @@
 // The rows of a source, in its order: how many of them are new to a target, and pouring them into it.
 ghost use mathlib.Core.Path.{_≡_};
-ghost use mathlib.Core.List.{[]};
-ghost use Rattle.table.specs.Pour.{add, pour, news};
-ghost use Rattle.table.specs.Heads.{settings, stored, table, Holds};
+ghost use Rattle.whole.specs.Lists.{tab};
+ghost use Rattle.table.specs.Pour.{add, pour, oneIfNew, newsIn};
+ghost use Rattle.table.specs.Heads.{settings, tableWith, tableWithIn, table, tableIn, HoldsIn};
 ghost use Rattle.table.specs.Inner.{Addable};
-ghost use Rattle.pour.specs.Inner.{Seekable, oneIfNew};
 ghost use Rattle.index.specs.Keys.{keyAt};
-ghost use Rattle.merge.specs.Source.{sourceRow, firstRows, Stretch, InSource, Stretches, Pouring};
+ghost use Rattle.index.specs.Search.{Searchable};
+ghost use Rattle.merge.specs.Source.{sourceRow, firstRows, Stretch, InSource, Stretches, RowsToPour};
 use table::Head;
 
 // 1 where the target has no point with the key of this row, else 0.
 fn new_row(head: Head, keys: &[i32], index: &[u16], source_keys: &[i32], row: usize) -> usize
-    requires { ⌜ Seekable (settings head) (head .points) (now keys) (now index) ⌝ }
+    requires { ⌜ Searchable (head .d) (head .capacity) (now keys) (now index) ⌝ }
     requires { ⌜ Stretch (head .d) (now «source_keys») row ⌝ }
     ensures { λ r. ⌜ r ≡ oneIfNew (settings head) (now (keys .entry)) (now (index .entry)) (keyAt (head .d) (now («source_keys» .entry)) row) ⌝ }
 {
@@ -20,20 +20,17 @@ fn new_row(head: Head, keys: &[i32], index: &[u16], source_keys: &[i32], row: us
     pour::is_new(head, keys, index, &source_keys[start..end])
 }
 
-// Only the points that are new count. The pairs do not matter here.
-pub fn count_new(
+// Only the points that are new count.
+pub fn new_rows(
     head: Head,
     keys: &[i32],
     index: &[u16],
     source_keys: &[i32],
     source_points: usize,
 ) -> usize
-    requires { ⌜ Seekable (settings head) (head .points) (now keys) (now index) ⌝ }
+    requires { ⌜ Searchable (head .d) (head .capacity) (now keys) (now index) ⌝ }
     requires { ⌜ Stretches (head .d) (now «source_keys») «source_points» ⌝ }
-    ensures { λ r. ⌜
-        (let t = table head (now (keys .entry)) [] (now (index .entry)) in
-        r ≡ news (settings head) t (firstRows (head .d) (now («source_keys» .entry)) [] «source_points»))
-        ⌝ }
+    ensures { λ r. ⌜ r ≡ newsIn (settings head) (now (keys .entry)) (now (index .entry)) (tab «source_points» (keyAt (head .d) (now («source_keys» .entry)))) ⌝ }
 {
     let mut count = 0;
     for i in 0..source_points {
@@ -54,14 +51,14 @@ fn pour_row(
     row: usize,
 ) -> usize
     requires { ⌜
-        (let t = stored head points (now keys) (now sums) (now index) in
+        (let t = tableWith head points (now keys) (now sums) (now index) in
         Addable (settings head) t (sourceRow (head .d) (now «source_keys») (now «source_sums») row))
         ⌝ }
     requires { ⌜ InSource (head .d) (now «source_keys») (now «source_sums») row ⌝ }
     ensures { λ r. ⌜
-        (let t = stored head points (now (keys .entry)) (now (sums .entry)) (now (index .entry)) in
+        (let t = tableWithIn head points keys sums index in
         let x = sourceRow (head .d) (now («source_keys» .entry)) (now («source_sums» .entry)) row in
-        Holds (add (settings head) t x) r (now (keys .exit)) (now (sums .exit)) (now (index .exit)))
+        HoldsIn (add (settings head) t x) r keys sums index)
         ⌝ }
 {
     let start = head.d * row;
@@ -93,12 +90,12 @@ pub fn pour_rows(
 ) -> usize
     requires { ⌜
         (let t = table head (now keys) (now sums) (now index) in
-        Pouring (settings head) t (now «source_keys») (now «source_sums») «source_points»)
+        RowsToPour (settings head) t (now «source_keys») (now «source_sums») «source_points»)
         ⌝ }
     ensures { λ r. ⌜
-        (let t = table head (now (keys .entry)) (now (sums .entry)) (now (index .entry)) in
+        (let t = tableIn head keys sums index in
         let rs = firstRows (head .d) (now («source_keys» .entry)) (now («source_sums» .entry)) «source_points» in
-        Holds (pour (settings head) t rs) r (now (keys .exit)) (now (sums .exit)) (now (index .exit)))
+        HoldsIn (pour (settings head) t rs) r keys sums index)
         ⌝ }
 {
     let mut points = head.points;

@@ -2,23 +2,26 @@
 use mathlib.Core.Path.{_≡_, refl, sym, ap, _∙_, subst}
 use mathlib.Core.List.{List}
 use Prim.Native.Nat.{ℕ, suc, _+_, _-_, _*_}
+use native.Mathlib.Nat.{le-refl}
 use native.Mathlib.Omega.{arith}
 use lib.IntN.{ℤ, _+ℤ_}
 use lib.ListN.{length}
 use mir.Syntax.{w64}
 use mir.Val.{SFits}
 use mir.Facts.{toZ-ofZ}
-use Rattle.whole.specs.Lists.{at}
+use Rattle.whole.specs.Lists.{at, splice}
 use Rattle.whole.proofs.Signed.{W64}
 use Rattle.index.specs.Keys.{keyAt}
-use Rattle.index.specs.Search.{search}
+use Rattle.index.specs.Search.{search, Searchable}
+use Rattle.index.proofs.Equality.{stretch-fits}
 use Rattle.index.proofs.Finding.{found-low}
 use Rattle.table.specs.Table.{Settings, Table, Row, key, entry, found}
 use Rattle.table.specs.Heads.{Holds}
 use Rattle.table.specs.Inner.{Addable}
 use Rattle.table.specs.Pour.{setPair, append, raise, add}
-use Rattle.pour.specs.Inner.{Sought, Appendable, Raisable}
-use Rattle.pour.proofs.Seeking.{place-is, place-in, entry-is}
+use Rattle.pour.specs.Inner.{Appendable, Appends, Raisable}
+use Rattle.table.proofs.Soundness.{table-searched}
+use Rattle.pour.proofs.Seeking.{place-is, place-read, entry-is}
 use Rattle.pour.proofs.Raising.{raisable}
 
 -- a row's numbers as the machine passes them on
@@ -29,33 +32,40 @@ passed-is : (r : Row) → SFits w64 (r .mass) → SFits w64 (r .value) → passe
 passed-is r f g = λ i. record { key = r .key; mass = toZ-ofZ f i; value = toZ-ofZ g i }
 
 module _ (c : Settings) (t : Table) (r : Row) (A : Addable c t r) where
-  pub sought : Sought c (t .keys) (t .index) (r .key)
-  sought = record {
-    points = t .m;
-    seekable = record { ranged = A .ranged; keys-size = A .kept .shape .keys; index-size = A .kept .shape .index; sparse = A .kept .indexed .sparse };
-    key-size = A .good .size;
-  }
+  pub searched : Searchable (c .d) (c .C) (t .keys) (t .index)
+  searched = table-searched c t (A .ranged) (A .kept .shape) (A .kept .indexed .sparse)
 
   -- the place where the search ends
   module _ {p : ℕ} (e : p ≡ search (c .C) (keyAt (length (r .key)) (t .keys)) (entry t) (r .key)) where
     here : entry t p ≡ found c t (r .key)
-    here = entry-is c (t .keys) (t .index) (r .key) sought e
+    here = entry-is (c .d) (c .C) (t .keys) (t .index) (r .key) searched (A .good .size) e
 
     -- ---- it is empty
-    pub appendable : entry t p ≡ 0 → Appendable c t p r
-    appendable z = record {
-      shape = A .kept .shape;
-      size = A .good .size;
-      room = A .room (sym here ∙ z);
-      C-most = A .ranged .C-most;
-      place-in = place-in c (t .keys) (t .index) (r .key) sought e;
+    pub appendable : entry t p ≡ 0 → Appendable (t .m) (t .keys) (t .sums) (t .index) p (r .key)
+    appendable z =
+        let room = A .room (sym here ∙ z) in
+        record {
+          few = omega (arith, room, A .ranged .C-most);
+          stretch = rw (A .good .size, A .kept .shape .keys) (stretch-fits (c .d) (t .m) (c .C) _ room (le-refl _));
+          pair = omega (arith, room, A .kept .shape .sums);
+          place-in = place-read (c .d) (c .C) (t .keys) (t .index) (r .key) searched (A .good .size) e;
+        }
+
+    -- a key has d numbers, so this is the table that is meant
+    holds : {points : ℕ} {keys sums : List ℤ} {index : List ℕ} → Appends (t .m) (t .keys) (t .sums) (t .index) p r points keys sums index → Holds (append c t p r) points keys sums index
+    unfolding append
+    holds H = record {
+      points-are = H .points-are;
+      keys-are = H .keys-are ∙ ap (λ (d : ℕ). splice (t .keys) (d * t .m) (r .key)) (A .good .size);
+      sums-are = H .sums-are;
+      index-are = H .index-are;
     }
 
     pub added-new : entry t p ≡ 0 → SFits w64 (r .mass) → SFits w64 (r .value) → {points : ℕ} {keys sums : List ℤ} {index : List ℕ}
-        → Holds (append c t p (passed r)) points keys sums index → Holds (add c t r) points keys sums index
+        → Appends (t .m) (t .keys) (t .sums) (t .index) p (passed r) points keys sums index → Holds (add c t r) points keys sums index
     added-new z f g {points} {keys} {sums} {index} H = rw (sym here ∙ z)
-        (subst (λ (p : ℕ). Holds (append c t p r) points keys sums index) (place-is c (t .keys) (t .index) (r .key) sought e)
-        (subst (λ (r : Row). Holds (append c t p r) points keys sums index) (passed-is r f g) H))
+        (subst (λ (p : ℕ). Holds (append c t p r) points keys sums index) (place-is (c .d) (c .C) (t .keys) (t .index) (r .key) searched (A .good .size) e)
+        (holds (subst (λ (r : Row). Appends (t .m) (t .keys) (t .sums) (t .index) p r points keys sums index) (passed-is r f g) H)))
 
     -- ---- it names a point
     named : (entry t p ≡ 0 → ⊥) → found c t (r .key) ≡ suc (entry t p - 1)

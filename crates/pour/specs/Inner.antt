@@ -1,19 +1,14 @@
 -- What the functions that add a row ask of one another.
 use mathlib.Core.Path.{_≡_}
-use mathlib.Core.Bool.{cond}
 use mathlib.Core.List.{List}
-use Prim.Native.Nat.{ℕ, _+_, _*_, _<_, _≤_}
-use lib.Dec.{eqb}
+use Prim.Native.Nat.{ℕ, suc, _+_, _*_, _<_, _≤_}
 use lib.IntN.{ℤ}
-use lib.ListN.{length}
+use lib.ListN.{length, set}
 use Rattle.whole.specs.Size.{Abs≤}
-use Rattle.whole.specs.Lists.{at}
+use Rattle.whole.specs.Lists.{at, splice}
 use Rattle.lattice.specs.Limits.{most-C, most-W, most-readings, most-value}
-use Rattle.index.specs.Keys.{keyAt}
-use Rattle.index.specs.Search.{entryAt, search}
-use Rattle.index.specs.Indexed.{Sparse}
-use Rattle.table.specs.Table.{Settings, Table, Row}
-use Rattle.table.specs.Sound.{Ranged, Shape}
+use Rattle.table.specs.Table.{Row}
+use Rattle.table.specs.Pour.{setPair}
 
 -- all the mass that 4,096 readings give
 abbrev pub most-mass : ℕ
@@ -27,27 +22,16 @@ pub record Raisable (sums : List ℤ) (i : ℕ) (mass value : ℤ) : Type 0 wher
   pub mass-more : Abs≤ mass most-mass
   pub value-more : Abs≤ value (most-value * most-mass)
 
--- A row that may be appended: there is room for one more point, and the place is one of the index.
-pub record Appendable (c : Settings) (t : Table) (place : ℕ) (r : Row) : Type 0 where
-  pub shape : Shape c t
-  pub size : length (r .key) ≡ c .d
-  pub room : t .m < c .C
-  pub C-most : c .C ≤ most-C
-  pub place-in : place < 2 * c .C
+-- A key that may be appended as point m: there is room for its stretch and its pair, and the place is one of the index.
+pub record Appendable (m : ℕ) (keys sums : List ℤ) (index : List ℕ) (place : ℕ) (key : List ℤ) : Type 0 where
+  pub few : m < most-C
+  pub stretch : length key * m + length key ≤ length keys
+  pub pair : 2 * m + 1 < length sums
+  pub place-in : place < length index
 
--- Lent keys and a lent index in which keys can be sought: among 2·C places, those of m points.
-pub record Seekable (c : Settings) (m : ℕ) (keys : List ℤ) (index : List ℕ) : Type 0 where
-  pub ranged : Ranged c
-  pub keys-size : length keys ≡ c .d * c .C
-  pub index-size : length index ≡ 2 * c .C
-  pub sparse : Sparse (c .C) m (entryAt index)
-
--- What the search for a key asks of them.
-pub record Sought (c : Settings) (keys : List ℤ) (index : List ℕ) (key : List ℤ) : Type 0 where
-  pub points : ℕ
-  pub seekable : Seekable c points keys index
-  pub key-size : length key ≡ c .d
-
--- "Only the points that are new count.": 1 where the search for the key ends at an empty place, else 0
-abbrev pub oneIfNew : Settings → List ℤ → List ℕ → List ℤ → ℕ
-oneIfNew c keys index key = cond (eqb (entryAt index (search (c .C) (keyAt (c .d) keys) (entryAt index) key)) 0) 1 0
+-- What is left then: the key in a stretch of its length, the pair, the place that names the point, and one point more.
+pub record Appends (m : ℕ) (keys sums : List ℤ) (index : List ℕ) (place : ℕ) (r : Row) (points : ℕ) (keys′ sums′ : List ℤ) (index′ : List ℕ) : Type 0 where
+  pub points-are : points ≡ suc m
+  pub keys-are : keys′ ≡ splice keys (length (r .key) * m) (r .key)
+  pub sums-are : sums′ ≡ setPair sums m (r .mass) (r .value)
+  pub index-are : index′ ≡ set index place (suc m)

@@ -15,7 +15,6 @@ use Rattle.lattice.proofs.Spread.{best-is}
 use Rattle.table.specs.Table.{Settings, Table, key, mass, value, whole}
 use Rattle.table.specs.Reading.{Reading}
 use Rattle.table.proofs.Lists.{all-list}
-use Rattle.table.proofs.Soundness.{of-fine}
 use Rattle.blur.proofs.Stored.{fine-readable, every-pair}
 use Rattle.filter.specs.Answer.{code, answer}
 use Rattle.filter.proofs.Between.{Bounded, bounded-zero, bounded-plus, bounded-share, all-between}
@@ -52,7 +51,7 @@ from-bounded lo hi d S y (r ∷ rs) h =
     bounded-plus lo hi (pos w, pos w *ℤ r .value) (massFrom d S rs y, valueFrom d S rs y) (bounded-share lo hi w (r .value) (h .0)) (from-bounded lo hi d S y rs (h .1))
 
 pub answer-within : (c : Settings) (t : Table) (rs : List Reading) → Built c t rs → (q : List ℤ) → code c t q ≡ 0 → Within (leastIn rs) (greatestIn rs) (answer c t q)
-answer-within c t rs B = answer-between lo hi c t (of-fine c t (B .fine))
+answer-within c t rs B = answer-between lo hi c t (B .fine)
     (all-between lo hi c t (every-pair c t (fine-readable c t (B .fine)) (λ a b. Bounded lo hi (a, b)) (bounded-zero lo hi) each))
   where
     lo : ℤ

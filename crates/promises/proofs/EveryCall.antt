@@ -4,24 +4,37 @@ use mathlib.Core.List.{List}
 use Prim.Native.Nat.{ℕ}
 use lib.IntN.{ℤ}
 use lib.ListN.{length}
+use contract.Lifetimes.{Lfts}
+use denote.Ref.{now}
+use denote.Triple.Entry.{Args}
+use denote.Triple.Clauses.{Ended}
 use Rattle.whole.specs.Lists.{splice}
+use Rattle.table.specs.declared.Head.{Head}
 use Rattle.table.specs.Table.{Settings, Table}
-use Rattle.table.specs.Calls.{freshRefusal, afterFresh, enter, mergeRefusal, afterMerge}
-use Rattle.table.specs.Heads.{headOf}
+use Rattle.table.specs.Calls.{lent, freshRefusal, afterFresh, enter, mergeRefusal, afterMerge}
+use Rattle.table.specs.Heads.{settings, table, headOf, Answers, Enters}
 use Rattle.table.proofs.Calls.{fresh-refused, enter-refused, merge-refused}
-use Rattle.listing.specs.Listing.{listRefusal, afterList}
-use Rattle.filter.specs.Filter.{Lent, filterRefusal, afterFilter}
+use Rattle.listing.specs.Listing.{listRefusal, afterList, Lists}
+use Rattle.filter.specs.Filter.{Lent, filterRefusal, afterFilter, Filters}
 use Rattle.reader.specs.Items.{foundAt}
 use Rattle.reader.specs.Reader.{here, movedOn}
-use Rattle.log.specs.Loading.{load}
-use Rattle.report.specs.Report.{report, fitting}
-use Rattle.promises.specs.EveryCall.{Only, One, Left, LeftInC, inC, AnswerAllows, EnterAllows, LoadAllows, ListAllows, FilterAllows, ReportAllows, EveryCallOne, ReaderOne, RefusedLeavesAll, EqualOnly, InnerOnly}
+use Rattle.log.specs.Loading.{load, Loads}
+use Rattle.report.specs.Report.{report, fitting, Reports}
+use Rattle.export.specs.Numbers as numbers
+use Rattle.promises.specs.Contracts.{Only, One, Ensures, Requires, AnswerAndMemory, Allows, Answering}
+use Rattle.promises.specs.EveryCall.{EveryCallOne, ReaderOne, ReaderSays, RefusedLeavesAll}
 
--- a contract that says what the answer equals
-pub equal-only : EqualOnly
-equal-only A x a b p q = p ∙ sym q
+-- ---- what a call on a table answers and leaves
+record Left : Type 0 where
+  number : ℕ
+  head : Head
+  keys : List ℤ
+  sums : List ℤ
+  index : List ℕ
 
--- ---- calls on a table
+abbrev AnswerAllows : Settings → ℕ → Table → Left → Type 0
+AnswerAllows c x t o = Answers c x t (o .number) (o .head) (o .keys) (o .sums) (o .index)
+
 -- the outcome of a call of number x that hands back the head of t and leaves the memory of t
 abbrev leftOf : Settings → ℕ → Table → Left
 leftOf c x t = record { number = x; head = headOf c t; keys = t .keys; sums = t .sums; index = t .index }
@@ -41,14 +54,14 @@ answers-allowed c x t = record { number-is = refl; head-is = refl; keys-are = re
 answers-one : (c : Settings) (x : ℕ) (t : Table) → One (AnswerAllows c x t)
 answers-one c x t = record { outcome = leftOf c x t; allowed = answers-allowed c x t; only = answers-only c x t }
 
-enters-one : (c : Settings) (t : Table) (l : List ℤ) → One (EnterAllows c t l)
+enters-one : (c : Settings) (t : Table) (l : List ℤ) → One (λ (o : ℕ × Left). Enters c (enter c t l) (o .0) (o .1 .number) (o .1 .head) (o .1 .keys) (o .1 .sums) (o .1 .index))
 enters-one c t l = let o = enter c t l in record {
   outcome = (o .taken, leftOf c (o .number) (o .table));
   allowed = record { taken-is = refl; answers = answers-allowed c (o .number) (o .table) };
   only = λ a b A B. λ i. ((A .taken-is ∙ sym (B .taken-is)) i, answers-only c (o .number) (o .table) (a .1) (b .1) (A .answers) (B .answers) i);
 }
 
-loads-one : (l : List ℕ) (t : Table) → One (LoadAllows l t)
+loads-one : (l : List ℕ) (t : Table) → One (λ (o : ℕ × Left). Loads (load l t) (o .1 .number) (o .0) (o .1 .head) (o .1 .keys) (o .1 .sums) (o .1 .index))
 loads-one l t = let o = load l t in record {
   outcome = (o .offset, leftOf (o .settings) (o .number) (o .table));
   allowed = record { offset-is = refl; answers = answers-allowed (o .settings) (o .number) (o .table) };
@@ -56,14 +69,14 @@ loads-one l t = let o = load l t in record {
 }
 
 -- ---- calls that leave lists
-lists-one : (c : Settings) (t : Table) (list : List ℕ) → One (ListAllows c t list)
+lists-one : (c : Settings) (t : Table) (list : List ℕ) → One (λ (o : ℕ × List ℕ). Lists c t list (o .0) (o .1))
 lists-one c t list = record {
   outcome = (listRefusal c t list, afterList c t list);
   allowed = record { number-is = refl; list-is = refl };
   only = λ a b A B. λ i. ((A .number-is ∙ sym (B .number-is)) i, (A .list-is ∙ sym (B .list-is)) i);
 }
 
-filters-one : (c : Settings) (t : Table) (queries : List ℤ) (l : Lent) → One (FilterAllows c t queries l)
+filters-one : (c : Settings) (t : Table) (queries : List ℤ) (l : Lent) → One (λ (o : ℕ × Lent). Filters c t queries l (o .0) (o .1 .first) (o .1 .second) (o .1 .values) (o .1 .codes))
 filters-one c t queries l = record {
   outcome = (filterRefusal c t queries l, afterFilter c t queries l);
   allowed = record { number-is = refl; first-is = refl; second-is = refl; values-are = refl; codes-are = refl };
@@ -78,14 +91,14 @@ filters-one c t queries l = record {
   );
 }
 
-reports-one : (l buffer : List ℕ) → One (ReportAllows l buffer)
+reports-one : (l buffer : List ℕ) → One (λ (o : ℕ × List ℕ). Reports l buffer (o .0) (o .1))
 reports-one l buffer = let text = fitting (length buffer) (report l) in record {
   outcome = (length text, splice buffer 0 text);
   allowed = record { bytes-are = refl; after-is = refl };
   only = λ a b A B. λ i. ((A .bytes-are ∙ sym (B .bytes-are)) i, (A .after-is ∙ sym (B .after-is)) i);
 }
 
--- ---- in C
+-- ---- the contracts
 -- one outcome stays one where outcomes are told in another way, there and back
 module _ {A B : Type 0} (f : B → A) (g : A → B) (there : (a : A) → f (g a) ≡ a) (back : (b : B) → g (f b) ≡ b) {Allows : A → Type 0} (O : One Allows) where
   one-retold : One (λ (b : B). Allows (f b))
@@ -95,40 +108,100 @@ module _ {A B : Type 0} (f : B → A) (g : A → B) (there : (a : A) → f (g a)
     only = λ a b p q. sym (back a) ∙ ap g (O .only (f a) (f b) p q) ∙ back b;
   }
 
--- the head as its five numbers
-abbrev toC : Left → LeftInC
-toC o = let h = o .head in record {
-  number = o .number;
-  d = h .d;
-  S = h .fineness;
-  C = h .capacity;
-  n = h .readings;
-  m = h .points;
-  keys = o .keys;
-  sums = o .sums;
-  index = o .index;
-}
+-- what is learnt from an outcome is what was to be shown for it, so there is no other
+answering : {F : Ended} {shown learnt : Ensures F} {asked : Requires F} → ((κs : Lfts (F .signature .lifetimes)) (a : Args (F .signature) κs) → One (Allows F shown κs a))
+    → ((κs : Lfts (F .signature .lifetimes)) (a : Args (F .signature) κs) (o : AnswerAndMemory F κs a) → Allows F learnt κs a o → Allows F shown κs a o)
+    → ((κs : Lfts (F .signature .lifetimes)) (a : Args (F .signature) κs) → asked κs a) → Answering F shown learnt asked
+answering one same asks = record { one-outcome = one; no-other = λ κs a o u p q. one κs a .only o u (same κs a o p) (same κs a u q); asks-nothing = asks }
 
-alone-in-C : {Allows : Left → Type 0} → One Allows → One (λ (o : LeftInC). Allows (inC o))
-alone-in-C = one-retold inC toC (λ o. refl) (λ o. refl)
-
--- and where a number goes with it
-beside-in-C : {Allows : ℕ × Left → Type 0} → One Allows → One (λ (o : ℕ × LeftInC). Allows (o .0, inC (o .1)))
-beside-in-C = one-retold (λ (o : ℕ × LeftInC). (o .0, inC (o .1))) (λ (o : ℕ × Left). (o .0, toC (o .1))) (λ o. refl) (λ o. refl)
-
+-- the parts of a head and of what is left, in the order in which each function has them
 pub every-call-one : EveryCallOne
 every-call-one = record {
-  fresh-one = λ c t. answers-one c (freshRefusal c t) (afterFresh c t);
-  enter-one = enters-one;
-  merge-one = λ c t b s. answers-one c (mergeRefusal c t b s) (afterMerge c t b s);
-  list-one = lists-one;
-  filter-one = filters-one;
-  load-one = loads-one;
-  report-one = reports-one;
-  fresh-in-C = λ c t. alone-in-C (answers-one c (freshRefusal c t) (afterFresh c t));
-  enter-in-C = λ c t l. beside-in-C (enters-one c t l);
-  merge-in-C = λ c t b s. alone-in-C (answers-one c (mergeRefusal c t b s) (afterMerge c t b s));
-  load-in-C = λ l t. beside-in-C (loads-one l t);
+  fresh = answering (λ κs a. one-retold
+      (λ o. record { number = o .0 .number; head = o .0 .head; keys = o .1 .1 .1 .1 .0; sums = o .1 .1 .1 .1 .1 .0; index = o .1 .1 .1 .1 .1 .1 .0 })
+      (λ o. (record { number = o .number; head = o .head }, (tt, (tt, (tt, (o .keys, (o .sums, (o .index, tt))))))))
+      (λ o. refl)
+      (λ o. refl)
+      (let c : Settings = record { d = (a .0); S = (a .1 .0); C = (a .1 .1 .0) } in let t = lent (now (a .1 .1 .1 .0)) (now (a .1 .1 .1 .1 .0)) (now (a .1 .1 .1 .1 .1 .0)) in answers-one c (freshRefusal c t) (afterFresh c t))) (λ κs a o p. p) (λ κs a. tt);
+  enter = answering (λ κs a. one-retold
+      (λ o. (o .0 .taken, record { number = o .0 .number; head = o .0 .head; keys = o .1 .1 .0; sums = o .1 .1 .1 .0; index = o .1 .1 .1 .1 .0 }))
+      (λ o. (record { taken = o .0; number = o .1 .number; head = o .1 .head }, (tt, (o .1 .keys, (o .1 .sums, (o .1 .index, (tt, tt)))))))
+      (λ o. refl)
+      (λ o. refl)
+      (enters-one (settings (a .0)) (table (a .0) (now (a .1 .0)) (now (a .1 .1 .0)) (now (a .1 .1 .1 .0))) (now (a .1 .1 .1 .1 .0)))) (λ κs a o p. p) (λ κs a. tt);
+  merge = answering (λ κs a. one-retold
+      (λ o. record { number = o .0 .number; head = o .0 .head; keys = o .1 .1 .0; sums = o .1 .1 .1 .0; index = o .1 .1 .1 .1 .0 })
+      (λ o. (record { number = o .number; head = o .head }, (tt, (o .keys, (o .sums, (o .index, (tt, (tt, (tt, (tt, tt))))))))))
+      (λ o. refl)
+      (λ o. refl)
+      (let c = settings (a .0) in let t = table (a .0) (now (a .1 .0)) (now (a .1 .1 .0)) (now (a .1 .1 .1 .0)) in let b = settings (a .1 .1 .1 .1 .0) in let s = table (a .1 .1 .1 .1 .0) (now (a .1 .1 .1 .1 .1 .0)) (now (a .1 .1 .1 .1 .1 .1 .0)) (now (a .1 .1 .1 .1 .1 .1 .1 .0)) in answers-one c (mergeRefusal c t b s) (afterMerge c t b s))) (λ κs a o p. p) (λ κs a. tt);
+  list = answering (λ κs a. one-retold
+      (λ o. (o .0, o .1 .1 .1 .1 .1 .0))
+      (λ o. (o .0, (tt, (tt, (tt, (tt, (o .1, tt)))))))
+      (λ o. refl)
+      (λ o. refl)
+      (lists-one (settings (a .0)) (table (a .0) (now (a .1 .0)) (now (a .1 .1 .0)) (now (a .1 .1 .1 .0))) (now (a .1 .1 .1 .1 .0)))) (λ κs a o p. p) (λ κs a. tt);
+  filter = answering (λ κs a. one-retold
+      (λ o. (o .0, record { first = o .1 .1 .1 .1 .1 .0; second = o .1 .1 .1 .1 .1 .1 .0; values = o .1 .1 .1 .1 .1 .1 .1 .1 .0; codes = o .1 .1 .1 .1 .1 .1 .1 .1 .1 .0 }))
+      (λ o. (o .0, (tt, (tt, (tt, (tt, (o .1 .first, (o .1 .second, (tt, (o .1 .values, (o .1 .codes, tt)))))))))))
+      (λ o. refl)
+      (λ o. refl)
+      (filters-one (settings (a .0)) (table (a .0) (now (a .1 .0)) (now (a .1 .1 .0)) (now (a .1 .1 .1 .0))) (now (a .1 .1 .1 .1 .1 .1 .0)) (record { first = (now (a .1 .1 .1 .1 .0)); second = (now (a .1 .1 .1 .1 .1 .0)); values = (now (a .1 .1 .1 .1 .1 .1 .1 .0)); codes = (now (a .1 .1 .1 .1 .1 .1 .1 .1 .0)) }))) (λ κs a o p. p) (λ κs a. tt);
+  load = answering (λ κs a. one-retold
+      (λ o. (o .0 .offset, record { number = o .0 .number; head = o .0 .head; keys = o .1 .1 .0; sums = o .1 .1 .1 .0; index = o .1 .1 .1 .1 .0 }))
+      (λ o. (record { number = o .1 .number; offset = o .0; head = o .1 .head }, (tt, (o .1 .keys, (o .1 .sums, (o .1 .index, tt))))))
+      (λ o. refl)
+      (λ o. refl)
+      (loads-one (now (a .0)) (lent (now (a .1 .0)) (now (a .1 .1 .0)) (now (a .1 .1 .1 .0))))) (λ κs a o p. p) (λ κs a. tt);
+  report = answering (λ κs a. one-retold
+      (λ o. (o .0, o .1 .1 .0))
+      (λ o. (o .0, (tt, (o .1, tt))))
+      (λ o. refl)
+      (λ o. refl)
+      (reports-one (now (a .0)) (now (a .1 .0)))) (λ κs a o p. p) (λ κs a. tt);
+  vimrothi-fresh = answering (λ κs a. one-retold
+      (λ o. record { number = o .0; head = numbers.headFrom (o .1 .0) (o .1 .1 .0) (o .1 .1 .1 .0) (o .1 .1 .1 .1 .0) (o .1 .1 .1 .1 .1 .0); keys = o .1 .1 .1 .1 .1 .1 .0; sums = o .1 .1 .1 .1 .1 .1 .1 .0; index = o .1 .1 .1 .1 .1 .1 .1 .1 .0 })
+      (λ o. (o .number, (o .head .d, (o .head .fineness, (o .head .capacity, (o .head .readings, (o .head .points, (o .keys, (o .sums, (o .index, tt))))))))))
+      (λ o. refl)
+      (λ o. refl)
+      (let c : Settings = record { d = (now (a .0)); S = (now (a .1 .0)); C = (now (a .1 .1 .0)) } in let t = lent (now (a .1 .1 .1 .1 .1 .0)) (now (a .1 .1 .1 .1 .1 .1 .0)) (now (a .1 .1 .1 .1 .1 .1 .1 .0)) in answers-one c (freshRefusal c t) (afterFresh c t))) (λ κs a o p. p) (λ κs a. tt);
+  vimrothi-enter = answering (λ κs a. one-retold
+      (λ o. (o .1 .1 .1 .1 .1 .1 .1 .1 .1 .1 .0, record { number = o .0; head = numbers.headFrom (o .1 .0) (o .1 .1 .0) (o .1 .1 .1 .0) (o .1 .1 .1 .1 .0) (o .1 .1 .1 .1 .1 .0); keys = o .1 .1 .1 .1 .1 .1 .0; sums = o .1 .1 .1 .1 .1 .1 .1 .0; index = o .1 .1 .1 .1 .1 .1 .1 .1 .0 }))
+      (λ o. (o .1 .number, (o .1 .head .d, (o .1 .head .fineness, (o .1 .head .capacity, (o .1 .head .readings, (o .1 .head .points, (o .1 .keys, (o .1 .sums, (o .1 .index, (tt, (o .0, tt))))))))))))
+      (λ o. refl)
+      (λ o. refl)
+      (let h = (numbers.headFrom (now (a .0)) (now (a .1 .0)) (now (a .1 .1 .0)) (now (a .1 .1 .1 .0)) (now (a .1 .1 .1 .1 .0))) in enters-one (settings h) (table h (now (a .1 .1 .1 .1 .1 .0)) (now (a .1 .1 .1 .1 .1 .1 .0)) (now (a .1 .1 .1 .1 .1 .1 .1 .0))) (now (a .1 .1 .1 .1 .1 .1 .1 .1 .0)))) (λ κs a o p. p) (λ κs a. tt);
+  vimrothi-merge = answering (λ κs a. one-retold
+      (λ o. record { number = o .0; head = numbers.headFrom (o .1 .0) (o .1 .1 .0) (o .1 .1 .1 .0) (o .1 .1 .1 .1 .0) (o .1 .1 .1 .1 .1 .0); keys = o .1 .1 .1 .1 .1 .1 .0; sums = o .1 .1 .1 .1 .1 .1 .1 .0; index = o .1 .1 .1 .1 .1 .1 .1 .1 .0 })
+      (λ o. (o .number, (o .head .d, (o .head .fineness, (o .head .capacity, (o .head .readings, (o .head .points, (o .keys, (o .sums, (o .index, (tt, (tt, (tt, (tt, (tt, (tt, (tt, (tt, tt))))))))))))))))))
+      (λ o. refl)
+      (λ o. refl)
+      (let h = (numbers.headFrom (now (a .0)) (now (a .1 .0)) (now (a .1 .1 .0)) (now (a .1 .1 .1 .0)) (now (a .1 .1 .1 .1 .0))) in let g = (numbers.headFrom (a .1 .1 .1 .1 .1 .1 .1 .1 .0) (a .1 .1 .1 .1 .1 .1 .1 .1 .1 .0) (a .1 .1 .1 .1 .1 .1 .1 .1 .1 .1 .0) (a .1 .1 .1 .1 .1 .1 .1 .1 .1 .1 .1 .0) (a .1 .1 .1 .1 .1 .1 .1 .1 .1 .1 .1 .1 .0)) in let c = settings h in let t = table h (now (a .1 .1 .1 .1 .1 .0)) (now (a .1 .1 .1 .1 .1 .1 .0)) (now (a .1 .1 .1 .1 .1 .1 .1 .0)) in let b = settings g in let s = table g (now (a .1 .1 .1 .1 .1 .1 .1 .1 .1 .1 .1 .1 .1 .0)) (now (a .1 .1 .1 .1 .1 .1 .1 .1 .1 .1 .1 .1 .1 .1 .0)) (now (a .1 .1 .1 .1 .1 .1 .1 .1 .1 .1 .1 .1 .1 .1 .1 .0)) in answers-one c (mergeRefusal c t b s) (afterMerge c t b s))) (λ κs a o p. p) (λ κs a. tt);
+  vimrothi-list = answering (λ κs a. one-retold
+      (λ o. (o .0, o .1 .1 .1 .1 .1 .1 .1 .1 .1 .0))
+      (λ o. (o .0, (tt, (tt, (tt, (tt, (tt, (tt, (tt, (tt, (o .1, tt)))))))))))
+      (λ o. refl)
+      (λ o. refl)
+      (let h = (numbers.headFrom (a .0) (a .1 .0) (a .1 .1 .0) (a .1 .1 .1 .0) (a .1 .1 .1 .1 .0)) in lists-one (settings h) (table h (now (a .1 .1 .1 .1 .1 .0)) (now (a .1 .1 .1 .1 .1 .1 .0)) (now (a .1 .1 .1 .1 .1 .1 .1 .0))) (now (a .1 .1 .1 .1 .1 .1 .1 .1 .0)))) (λ κs a o p. p) (λ κs a. tt);
+  vimrothi-filter = answering (λ κs a. one-retold
+      (λ o. (o .0, record { first = o .1 .1 .1 .1 .1 .1 .1 .1 .1 .0; second = o .1 .1 .1 .1 .1 .1 .1 .1 .1 .1 .0; values = o .1 .1 .1 .1 .1 .1 .1 .1 .1 .1 .1 .1 .0; codes = o .1 .1 .1 .1 .1 .1 .1 .1 .1 .1 .1 .1 .1 .0 }))
+      (λ o. (o .0, (tt, (tt, (tt, (tt, (tt, (tt, (tt, (tt, (o .1 .first, (o .1 .second, (tt, (o .1 .values, (o .1 .codes, tt)))))))))))))))
+      (λ o. refl)
+      (λ o. refl)
+      (let h = (numbers.headFrom (a .0) (a .1 .0) (a .1 .1 .0) (a .1 .1 .1 .0) (a .1 .1 .1 .1 .0)) in filters-one (settings h) (table h (now (a .1 .1 .1 .1 .1 .0)) (now (a .1 .1 .1 .1 .1 .1 .0)) (now (a .1 .1 .1 .1 .1 .1 .1 .0))) (now (a .1 .1 .1 .1 .1 .1 .1 .1 .1 .1 .0)) (record { first = (now (a .1 .1 .1 .1 .1 .1 .1 .1 .0)); second = (now (a .1 .1 .1 .1 .1 .1 .1 .1 .1 .0)); values = (now (a .1 .1 .1 .1 .1 .1 .1 .1 .1 .1 .1 .0)); codes = (now (a .1 .1 .1 .1 .1 .1 .1 .1 .1 .1 .1 .1 .0)) }))) (λ κs a o p. p) (λ κs a. tt);
+  vimrothi-load = answering (λ κs a. one-retold
+      (λ o. (o .1 .1 .1 .1 .1 .1 .1 .1 .1 .1 .0, record { number = o .0; head = numbers.headFrom (o .1 .1 .0) (o .1 .1 .1 .0) (o .1 .1 .1 .1 .0) (o .1 .1 .1 .1 .1 .0) (o .1 .1 .1 .1 .1 .1 .0); keys = o .1 .1 .1 .1 .1 .1 .1 .0; sums = o .1 .1 .1 .1 .1 .1 .1 .1 .0; index = o .1 .1 .1 .1 .1 .1 .1 .1 .1 .0 }))
+      (λ o. (o .1 .number, (tt, (o .1 .head .d, (o .1 .head .fineness, (o .1 .head .capacity, (o .1 .head .readings, (o .1 .head .points, (o .1 .keys, (o .1 .sums, (o .1 .index, (o .0, tt))))))))))))
+      (λ o. refl)
+      (λ o. refl)
+      (loads-one (now (a .0)) (lent (now (a .1 .1 .1 .1 .1 .1 .0)) (now (a .1 .1 .1 .1 .1 .1 .1 .0)) (now (a .1 .1 .1 .1 .1 .1 .1 .1 .0))))) (λ κs a o p. p) (λ κs a. tt);
+  vimrothi-report = answering (λ κs a. one-retold
+      (λ o. (o .0, o .1 .1 .0))
+      (λ o. (o .0, (tt, (o .1, tt))))
+      (λ o. refl)
+      (λ o. refl)
+      (reports-one (now (a .0)) (now (a .1 .0)))) (λ κs a o p. p) (λ κs a. tt);
+  read-at = answering (λ κs a. record { outcome = (foundAt (now (a .0)) (a .1 .0), (tt, (tt, tt))); allowed = refl; only = λ o u p q. λ i. ((p ∙ sym q) i, (tt, (tt, tt))) }) (λ κs a o p. p) (λ κs a. tt);
 }
 
 -- ---- the reader
@@ -144,8 +217,10 @@ reader-one = record {
     allowed = (refl, refl);
     only = λ a b A B. λ i. ((A .0 ∙ sym (B .0)) i, (A .1 ∙ sym (B .1)) i);
   };
-  read-at-one = λ l a. record { outcome = foundAt l a; allowed = refl; only = equal-only _ (foundAt l a) };
 }
+
+pub reader-says : ReaderSays
+reader-says = record { reader-at-says = λ w κs a r e. refl; next-says = λ w κs a r e. refl; reader-at-asks = λ w κs a. refl; next-asks = λ w κs a. refl }
 
 -- ---- refused as a whole
 pub refused-leaves-all : RefusedLeavesAll
@@ -156,23 +231,4 @@ refused-leaves-all = record {
   merge-refused = merge-refused;
   list-refused = λ c t list x e. rw (e, afterList);
   filter-refused = λ c t queries l x e. rw (e, afterFilter);
-}
-
--- ---- the functions inside
-pub inner-only : InnerOnly
-inner-only = record {
-  content-at = λ l o k numbers a b A B. λ i. ((A .means-is ∙ sym (B .means-is)) i, (A .after-is ∙ sym (B .after-is)) i);
-  enclose = λ d S x a b A B. λ i. ((A .weights-are ∙ sym (B .weights-are)) i, (A .coords-are ∙ sym (B .coords-are)) i);
-  add-row = λ t a b A B. λ i. (
-    (A .points-are ∙ sym (B .points-are)) i,
-    (A .keys-are ∙ sym (B .keys-are)) i,
-    (A .sums-are ∙ sym (B .sums-are)) i,
-    (A .index-are ∙ sym (B .index-are)) i,
-  );
-  enter-one = answers-only;
-  pair-of = λ c t y a b A B. λ i. ((A .stored-is ∙ sym (B .stored-is)) i, (A .mass-is ∙ sym (B .mass-is)) i, (A .value-is ∙ sym (B .value-is)) i);
-  blur = λ c t a b A B. λ i. ((A .first-is ∙ sym (B .first-is)) i, (A .second-is ∙ sym (B .second-is)) i);
-  reply-at = λ c t q a b A B. λ i. ((A .value-is ∙ sym (B .value-is)) i, (A .code-is ∙ sym (B .code-is)) i);
-  reply-all = λ c t queries a b A B. λ i. ((A .values-are ∙ sym (B .values-are)) i, (A .codes-are ∙ sym (B .codes-are)) i);
-  put-line = λ buffer a text r s A B. λ i. ((A .next-is ∙ sym (B .next-is)) i, (A .after-is ∙ sym (B .after-is)) i);
 }

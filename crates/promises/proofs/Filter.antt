@@ -19,9 +19,8 @@ use Rattle.lattice.specs.Lattice.{Point}
 use Rattle.lattice.specs.Weight.{weight}
 use Rattle.table.specs.Table.{Settings, Table, key, whole, found, pairAt, held}
 use Rattle.table.specs.Reading.{shares, entered}
-use Rattle.table.specs.Theorems.{Usable}
+use Rattle.table.specs.Sound.{Fine}
 use Rattle.table.proofs.Good.{key-whole}
-use Rattle.table.proofs.Soundness.{to-fine}
 use Rattle.table.proofs.Shares.{accepted}
 use Rattle.table.proofs.Pouring.{poured-all}
 use Rattle.table.proofs.Keeping.{acceptable-pours, reading-acceptable, entered-adds}
@@ -35,14 +34,14 @@ use Rattle.promises.specs.Filter.{EntersEachReading, Passed, BlursEachPo
 
 -- ---- entering
 -- a sound table holds nothing at a key that is no lattice point's
-held-nothing : (c : Settings) (t : Table) → Usable c t → (k : List ℤ) → ((y : List ℤ) → Point (c .d) y → take (c .d) y ≡ k → ⊥) → held c t k ≡ (pos 0, pos 0)
+held-nothing : (c : Settings) (t : Table) → Fine c t → (k : List ℤ) → ((y : List ℤ) → Point (c .d) y → take (c .d) y ≡ k → ⊥) → held c t k ≡ (pos 0, pos 0)
 held-nothing c t U k no-point = go (found c t k) refl
   where
     go : (e : ℕ) → found c t k ≡ e → pairAt (t .sums) e ≡ (pos 0, pos 0)
     go zero e = refl
     go (suc i) e =
         let (l, q) = search-finds c t U k i .0 e in
-        let G = to-fine c t U .sound .good i l in
+        let G = U .sound .good i l in
         absurd (no-point (whole (key c t i)) (G .point) (key-whole (c .d) (key c t i) (G .size) ∙ q))
 
 -- a mass that is not below 0 and grows by w is above 0 where it was so before, or w is
@@ -59,7 +58,7 @@ mass-grown w m m′ e low = (λ h. ⊎-elim inl (λ l. inr (lin w m m′ e l h))
     lin″ w = on _ λ a b. on _ λ c d. simp difs (omega ints)
 
 -- so a point is stored after where it was stored before, or its mass grows
-stored-grown : (c : Settings) (t u : Table) → Usable c t → Usable c u → (k : List ℤ) (w : ℕ) → held c u k .0 ≡ held c t k .0 +ℤ pos w
+stored-grown : (c : Settings) (t u : Table) → Fine c t → Fine c u → (k : List ℤ) (w : ℕ) → held c u k .0 ≡ held c t k .0 +ℤ pos w
     → (0 < found c u k) ↔ ((0 < found c t k) ⊎ (0 < w))
 stored-grown c t u U U′ k w e =
     let (there, back) = mass-grown w (held c t k .0) (held c u k .0) e (masses-low c t U k) in
@@ -71,15 +70,14 @@ pub enters-each-reading : EntersEachReading
 enters-each-reading c t r size U e =
     let u = entered c t r in
     let rows = shares (c .d) (c .S) r in
-    let F = to-fine c t U in
     let U′ = enter-keeps c t r size U e in
     let adds = enter-adds c t r size U e in
     record {
       at-points = adds;
       elsewhere = λ k h. held-nothing c u U′ k h ∙ sym (held-nothing c t U k h);
       stored = λ y Y. stored-grown c t u U U′ (take (c .d) y) (weight (c .d) (c .S) (at (r .position)) (at y)) (ap (λ (p : ℤ × ℤ). p .0) (adds y Y));
-      readings = entered-adds c t r size F e .count;
-      points = poured-all c t rows (acceptable-pours c t rows 1 (reading-acceptable c t r F (accepted c t r size e))) .points;
+      readings = entered-adds c t r size U e .count;
+      points = poured-all c t rows (acceptable-pours c t rows 1 (reading-acceptable c t r U (accepted c t r size e))) .points;
     }
 
 -- ---- blurring

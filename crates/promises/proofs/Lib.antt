@@ -1,6 +1,7 @@
 pub mod Starred
 pub mod Worked
 pub mod EveryCall
+pub mod Inner
 pub mod Filter
 pub mod Firsts
 pub mod Refusals
@@ -9,11 +10,16 @@ pub mod Stopping
 pub mod Program
 pub mod LogRefusals
 pub mod LogReadings
+pub mod Alone
 pub mod Histories
 pub mod Sums
 pub mod Sorted
+pub mod Different
 pub mod Holding
 pub mod Listed
 pub mod Between
+pub mod Total
 pub mod Order
+pub mod Acceptance
+pub mod Taking
 pub mod Printing

@@ -11,15 +11,13 @@ use Rattle.whole.specs.Lists.{at, All}
 use Rattle.whole.proofs.Lists.{length-tab, getD-tab}
 use Rattle.lattice.specs.Lattice.{Point}
 use Rattle.lattice.specs.Weight.{weight}
-use Rattle.table.specs.Table.{Settings, Table, Row, key, row, whole, found}
+use Rattle.table.specs.Table.{Settings, Table, Row, keysOf, key, row, whole, found}
 use Rattle.table.specs.Reading.{Reading}
-use Rattle.table.specs.Theorems.{Usable}
 use Rattle.table.proofs.Lists.{each-list, all-map, each-map}
 use Rattle.table.proofs.Rows.{row-eq}
 use Rattle.table.proofs.Good.{whole-size, key-whole}
-use Rattle.table.proofs.Soundness.{of-fine}
 use Rattle.table.proofs.Theorems.{search-finds, stored-exactly}
-use Rattle.listing.specs.Order.{before}
+use Rattle.listing.specs.Order.{precedes}
 use Rattle.listing.specs.Listing.{order, listed}
 use Rattle.listing.proofs.KeyOrder.{before-irr, before-trans}
 use Rattle.listing.proofs.Rising.{all-at, all-imp}
@@ -30,15 +28,12 @@ use Rattle.promises.proofs.Sums.{over-perm}
 use Rattle.promises.proofs.Sorted.{Has, has-perm, one-list, map-at}
 use Rattle.promises.proofs.Holding.{holds-at, row-from}
 
--- the keys of rows, and their order
+-- the key of a row, and the order of keys
 abbrev keyOf : Row → List ℤ
 keyOf r = r .key
 
-abbrev keysOf : List Row → List (List ℤ)
-keysOf = map keyOf
-
 abbrev Before : List ℤ → List ℤ → Type 0
-Before k j = T (before k j)
+Before k j = T (precedes k j)
 
 -- ---- it does not depend on the order of the readings
 module _ (d S : ℕ) (rs qs : List Reading) (p : Perm rs qs) where
@@ -69,16 +64,22 @@ module _ (d S : ℕ) (rs : List Reading) where
   by-keys [] h = refl
   by-keys (r ∷ l) h = ap₂ _∷_ (row-eq r (rowAt (r .key)) refl (h .0 .mass-is) (h .0 .value-is)) (by-keys l (h .1))
 
-  -- a row that readings make has its key in every listing of them
-  row-in : (m : List Row) → ListedFrom d S rs m → (r : Row) → RowFrom d S rs r → Has [] (keysOf m) (r .key)
-  row-in m M r R =
-      let size : length (r .key) ≡ d = omega (arith, R .point .size, whole-size (r .key)) in
-      let (i, h, e) = M .full (whole (r .key)) (R .point) (subst (λ (z : ℤ). pos 1 ≤ℤ z) (R .mass-is) (R .some)) in
-      (i, rw (length-map m keyOf) h, e ∙ key-whole d (r .key) size)
+  -- a lattice point to which readings give weight has its key in every listing of them,
+  pub point-in : (m : List Row) → ListedFrom d S rs m → (y : List ℤ) → Point d y → pos 1 ≤ℤ massFrom d S rs y → Has [] (keysOf m) (take d y)
+  point-in m M y Y h = let (i, l, e) = M .full y Y h in (i, rw (length-map m keyOf) l, e)
+
+  -- and so has a row that they make
+  pub row-in : (m : List Row) → ListedFrom d S rs m → (r : Row) → Point d (whole (r .key)) → pos 1 ≤ℤ massFrom d S rs (whole (r .key)) → Has [] (keysOf m) (r .key)
+  row-in m M r P h =
+      let size : length (r .key) ≡ d = omega (arith, P .size, whole-size (r .key)) in
+      subst (Has [] (keysOf m)) (key-whole d (r .key) size) (point-in m M (whole (r .key)) P h)
+
+  made-in : (m : List Row) → ListedFrom d S rs m → (r : Row) → RowFrom d S rs r → Has [] (keysOf m) (r .key)
+  made-in m M r R = row-in m M r (R .point) (subst (λ (z : ℤ). pos 1 ≤ℤ z) (R .mass-is) (R .some))
 
   keys-in : (l m : List Row) → ListedFrom d S rs l → ListedFrom d S rs m → (k : List ℤ) → Has [] (keysOf l) k → Has [] (keysOf m) k
   keys-in l m L M k (i, h, e) = subst (Has [] (keysOf m)) e (all-at (Has [] (keysOf m)) (keysOf l) []
-      (all-map (Has [] (keysOf m)) keyOf l (all-imp (RowFrom d S rs) (λ r. Has [] (keysOf m) (r .key)) l (row-in m M) (L .each))) i h)
+      (all-map (Has [] (keysOf m)) keyOf l (all-imp (RowFrom d S rs) (λ r. Has [] (keysOf m) (r .key)) l (made-in m M) (L .each))) i h)
 
   pub one-listing : (l m : List Row) → ListedFrom d S rs l → ListedFrom d S rs m → l ≡ m
   one-listing l m L M = by-keys l (L .each)
@@ -93,19 +94,16 @@ unfolding order
 order-has c t i l = has-perm 0 (ordered-perm _ (t .m) (λ i. i)) i (i, omega (arith, length-tab (t .m) (λ i. i)), getD-tab (t .m) (λ i. i) i 0 l)
 
 module _ (c : Settings) (t : Table) (rs : List Reading) (B : Built c t rs) where
-  usable : Usable c t
-  usable = of-fine c t (B .fine)
-
   -- a lattice point to which a reading gives weight is stored
   stored : (y : List ℤ) → Point (c .d) y → pos 1 ≤ℤ massFrom (c .d) (c .S) rs y → (i : ℕ) × (i < t .m) × (key c t i ≡ take (c .d) y)
-  stored y Y h = go (found c t k) refl (stored-exactly c t usable k .1 (subst (λ (p : ℤ × ℤ). pos 1 ≤ℤ p .0) (sym (holds-at c t rs B y Y)) h))
+  stored y Y h = go (found c t k) refl (stored-exactly c t (B .fine) k .1 (subst (λ (p : ℤ × ℤ). pos 1 ≤ℤ p .0) (sym (holds-at c t rs B y Y)) h))
     where
       k : List ℤ
       k = take (c .d) y
 
       go : (e : ℕ) → found c t k ≡ e → 0 < found c t k → (i : ℕ) × (i < t .m) × (key c t i ≡ k)
       go zero e p = absurd (omega arith)
-      go (suc i) e p = let (l, q) = search-finds c t usable k i .0 e in (i, l, q)
+      go (suc i) e p = let (l, q) = search-finds c t (B .fine) k i .0 e in (i, l, q)
 
   pub listing-from : ListedFrom (c .d) (c .S) rs (listed c t)
   unfolding listed
@@ -113,7 +111,7 @@ module _ (c : Settings) (t : Table) (rs : List Reading) (B : Built c t rs) where
     each = all-map (RowFrom (c .d) (c .S) rs) (row c t) (order c t)
         (all-imp (λ i. i < t .m) (λ i. RowFrom (c .d) (c .S) rs (row c t i)) (order c t) (row-from c t rs B) (order-low c t));
     ascending = each-map (λ a b. Before (a .key) (b .key)) (row c t) (order c t)
-        (each-list (λ i j. Before (key c t i) (key c t j)) (order c t) 0 (order-lists c t usable .ascending));
+        (each-list (λ i j. Before (key c t i) (key c t j)) (order c t) 0 (order-lists c t (B .fine) .ascending));
     full = λ y Y h.
         let (i, l, e) = stored y Y h in
         let (j, k, q) = order-has c t i l in

@@ -52,6 +52,10 @@ sized-before d p (then a s w) h = go (ltb a p) (sized-before d p w (after-these 
     go false k = tt
 sized-before d p (ends x a) h = tt
 
+pub log-read : (l : List ℕ) → Sized (settingsOf l .d) (readings (items l))
+unfolding walk
+log-read l = sized-walk (suc (length l)) l after-settings
+
 pub log-sized : (l : List ℕ) (p : ℕ) → Sized (settingsOf l .d) (before p (items l))
 unfolding walk
-log-sized l p = sized-before (settingsOf l .d) p (items l) (sized-walk (suc (length l)) l after-settings)
+log-sized l p = sized-before (settingsOf l .d) p (items l) (log-read l)

@@ -9,7 +9,7 @@ use Rattle.lattice.specs.Weight.{W}
 use Rattle.table.specs.Table.{Settings, Table, Row, row, rows, massOf}
 use Rattle.table.specs.Reading.{Reading}
 use Rattle.table.proofs.Lists.{over-tab, over-map}
-use Rattle.table.proofs.Soundness.{of-fine}
+use Rattle.table.proofs.Rows.{valueOf}
 use Rattle.table.proofs.Keeping.{rows-mass}
 use Rattle.listing.specs.Listing.{order, listed}
 use Rattle.listing.proofs.Listings.{ordered-perm, order-length}
@@ -21,9 +21,10 @@ use Rattle.promises.proofs.Sums.{over-permᴰ, length-perm}
 use Rattle.promises.proofs.Holding.{added-perm, holds-added}
 use Rattle.promises.proofs.Listed.{listed-perm, one-listing, listing-from}
 use Rattle.promises.proofs.Between.{answer-within}
+use Rattle.promises.proofs.Total.{over-shares}
 
 -- ---- the listing has every stored point once
-listed-length : (c : Settings) (t : Table) → length (listed c t) ≡ t .m
+pub listed-length : (c : Settings) (t : Table) → length (listed c t) ≡ t .m
 unfolding listed
 listed-length c t = length-map (order c t) (row c t) ∙ order-length c t
 
@@ -35,11 +36,12 @@ listed-over c t f = over-map (row c t) (order c t) f ∙ over-permᴰ (λ i. f (
 -- ---- a table is made of its readings
 made : (c : Settings) (t : Table) (rs : List Reading) → Built c t rs → MadeOf (c .d) (c .S) rs c t
 made c t rs B = record {
-  usable = of-fine c t (B .fine);
+  fine = B .fine;
   counts = B .counts;
   listing = listing-from c t rs B;
   points = sym (listed-length c t);
   total = listed-over c t massOf ∙ rows-mass c t (B .fine) ∙ ap (λ (n : ℕ). pos (W (c .d) (c .S) * n)) (B .counts);
+  value-total = listed-over c t valueOf ∙ B .sums valueOf (λ a b e. refl) ∙ over-shares (c .d) (c .S) (B .fine .ranged .S-least) rs;
   between = answer-within c t rs B;
 }
 
@@ -63,7 +65,8 @@ taken-in-any-order d S h g k j p =
       same-readings = H .counts ∙ length-perm rs qs p ∙ sym (G .counts);
       same-points = H .points ∙ ap length one ∙ sym (G .points);
       same-total = ap (λ (rows : List Row). over rows massOf) one;
-      same-answers = answer-of-map c t b s (H .usable) (G .usable) refl refl
+      same-value-total = ap (λ (rows : List Row). over rows valueOf) one;
+      same-answers = answer-of-map c t b s (H .fine) (G .fine) refl refl
           (λ y. holds-added c t rs (built d S h k) y ∙ added-perm d S rs qs p y ∙ sym (holds-added b s qs (built d S g j) y));
     }
 

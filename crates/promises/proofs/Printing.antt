@@ -1,29 +1,38 @@
 -- Printed lines where the order of readings does not matter: those of the points are told by the sorted listing, those of the answers by the queries.
 use mathlib.Core.Path.{_≡_, refl, sym, ap, ap₂, subst, fun-ext, _∙_}
 use mathlib.Core.List.{List, [], _∷_, _++_, flatMap, Perm}
-use Prim.Native.Nat.{ℕ}
+use Prim.Native.Nat.{ℕ, _≤_}
 use native.Mathlib.Omega.{arith}
+use lib.Dec.{leb}
 use lib.IntN.{ℤ, pos}
 use lib.ListN.{getD}
 use Rattle.whole.specs.Lists.{collect}
 use Rattle.whole.proofs.Lists.{collect-cong}
+use Rattle.lattice.specs.Refusals.{program-limit}
 use Rattle.table.specs.Table.{Settings, Table, Row, row, whole}
-use Rattle.table.specs.Calls.{fresh}
+use Rattle.table.specs.Calls.{ranged, fresh}
+use Rattle.table.proofs.Soundness.{to-ranged}
+use Rattle.table.proofs.Refusals.{first-zero}
+use Rattle.table.proofs.Keeping.{fresh-fine}
 use Rattle.listing.specs.Listing.{order, listed}
 use Rattle.listing.proofs.Listings.{order-length}
 use Rattle.filter.specs.Answer.{code, answer}
-use Rattle.reader.specs.Items.{settingsOf}
+use Rattle.reader.specs.Items.{settingsOf, itemAt, numberOf}
 use Rattle.reader.specs.Content.{Said, reads, asks, refuses}
 use Rattle.reader.specs.Walk as log
-use Rattle.log.specs.Loading.{load}
+use Rattle.log.specs.Loading.{startRefusal, load}
+use Rattle.log.proofs.Leaving.{either-zero}
 use Rattle.reader.specs.Walk.{items}
 use Rattle.text.specs.Text.{line}
-use Rattle.report.specs.Report.{point-word, headLine, pointLine, pointLines, answerLine, answerLines, queryText, perQuery, tableText}
+use Rattle.report.specs.Report.{most-log-capacity, settingsRefusal, point-word, headLine, pointLine, pointLines, answerLine, answerLines, queryText, perQuery, tableText}
 use Rattle.promises.specs.History.{loading, capacity, run, readings}
-use Rattle.promises.specs.Order.{Same, Printed, PrintedTheSame}
+use Rattle.promises.specs.Order.{Same}
+use Rattle.promises.specs.Printing.{Printed, Formed, PrintedTheSame}
 use Rattle.promises.proofs.Program.{taken-whole}
 use Rattle.promises.proofs.Sorted.{map-at}
 use Rattle.promises.proofs.Order.{order-does-not-matter}
+use Rattle.promises.proofs.Refusals.{refusals-exact}
+use Rattle.promises.proofs.Taking.{accepted-in-any-order}
 
 -- ---- the lines of points
 abbrev rowLine : Row → List ℕ
@@ -81,8 +90,29 @@ tables-same l m P Q dim fine p =
     subst (λ (b : Settings). Same c (tableIn l) b (tableIn m)) b-is
     (order-does-not-matter (c .d) (c .S) (loading l (fresh c)) (loading m (fresh b)) (refl, refl, P .taken) (sym dim, sym fine, Q .taken) p)
 
+-- ---- a log in form is not refused where another one of the same readings is not
+settings-accepted : (l : List ℕ) → settingsRefusal l ≡ 0 → startRefusal l (fresh (settingsOf l)) ≡ 0
+unfolding settingsRefusal
+settings-accepted l e =
+    let c = settingsOf l in
+    let (form, limits) = either-zero (numberOf (itemAt l 0)) _ e in
+    let G = to-ranged c (first-zero (ranged c) 0 ((leb (c .C) most-log-capacity, program-limit) ∷ []) limits .0) in
+    rw form (refusals-exact .fresh-call c (fresh c) .none .1 (G, fresh-fine c G .shape))
+
+printed-too : (l m : List ℕ) → Printed l → Formed m → settingsOf l .d ≡ settingsOf m .d → settingsOf l .S ≡ settingsOf m .S → settingsOf l .C ≤ settingsOf m .C
+    → Perm (log.readings (items l)) (log.readings (items m)) → Printed m
+unfolding capacity readings
+printed-too l m P Q dim fine room p =
+    let c = settingsOf l in
+    let n = accepted-in-any-order (c .d) (c .S) (loading l (fresh c)) (loading m (fresh (settingsOf m)))
+    (refl, refl, P .taken) (sym dim, sym fine, settings-accepted m (Q .settled), Q .in-form) room p in
+    record { short = Q .short; settled = Q .settled; taken = n .2 }
+
 pub printed-the-same : PrintedTheSame
-printed-the-same l m P Q dim fine p q =
-    taken-whole l (P .short) (P .settled) (P .taken)
-    ∙ text-same (settingsOf l) (tableIn l) (settingsOf m) (tableIn m) dim fine (tables-same l m P Q dim fine p) l m q
-    ∙ sym (taken-whole m (Q .short) (Q .settled) (Q .taken))
+printed-the-same l m P Q dim fine room p q =
+    let R = printed-too l m P Q dim fine room p in (
+      R,
+      taken-whole l (P .short) (P .settled) (P .taken)
+          ∙ text-same (settingsOf l) (tableIn l) (settingsOf m) (tableIn m) dim fine (tables-same l m P R dim fine p) l m q
+          ∙ sym (taken-whole m (R .short) (R .settled) (R .taken)),
+    )

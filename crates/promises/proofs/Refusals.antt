@@ -1,7 +1,7 @@
 -- Demand 2: for each call on tables, its number is k exactly when the condition of k holds and no earlier one does.
 use mathlib.Core.Path.{_≡_, refl, sym, ap, _∙_, subst}
 use mathlib.Core.Bool.{Bool, true, false, not, _&&_}
-use mathlib.Core.List.{List, _∷_}
+use mathlib.Core.List.{List, _++_}
 use Prim.Native.Nat.{ℕ, suc, _+_, _*_, _/_, _%_, _≤_, _<_}
 use native.Mathlib.Nat.{div-add-mod, mul-mod-right, mul-div-right}
 use native.Mathlib.Omega.{arith}
@@ -14,13 +14,13 @@ use Rattle.whole.proofs.Size.{abs-of, of-abs, size-zero}
 use Rattle.whole.proofs.Tests.{T-true, T-false}
 use Rattle.lattice.specs.Limits.{farthest, most-value, most-readings}
 use Rattle.lattice.specs.Refusals.{settings-out-of-range, other-length, not-sound, coordinate-beyond, sum-not-zero}
-use Rattle.lattice.specs.Position.{Position, allNear, sumsToZero, Judged}
+use Rattle.lattice.specs.Position.{Position, allNear, sumsToZero, positionTests, Judged}
 use Rattle.lattice.proofs.Judging.{judged-four, judged-five, judged-none, sum-zero, judged-right}
-use Rattle.table.specs.Table.{Settings, Table, Row, rows}
+use Rattle.table.specs.Table.{Settings, Table, Row, rows, keysOf}
 use Rattle.table.specs.Sound.{sound, Sound, Ranged, Shape, Fine}
 use Rattle.table.specs.Pour.{news}
 use Rattle.table.specs.Reading.{Reading, parsed, shares, refusal, entered}
-use Rattle.table.specs.Calls.{oneMore, ranged, fits, freshRefusal, callRefusal, enterRefusal, enterAll, enter, mergeRefusal}
+use Rattle.table.specs.Calls.{oneMore, ranged, fits, freshRefusal, callRefusal, enterRefusal, enterAll, enter, eachTests, mergeRefusal}
 use Rattle.table.proofs.Soundness.{to-ranged, of-ranged, to-shape, of-shape, to-sound, of-sound}
 use Rattle.table.proofs.Refusals.{T-of}
 use Rattle.table.proofs.Entering.{enter-yes, enter-ind}
@@ -45,8 +45,8 @@ tells-sound c t = tells (to-sound c t) (of-sound c t)
 tells-few : (t : Table) (more : ℕ) → Tells (leb (t .n + more) most-readings) (t .n + more ≤ most-readings) (most-readings < t .n + more)
 tells-few t more = tells-most (t .n + more) most-readings
 
-tells-room : (c : Settings) (t : Table) (rs : List Row) → Tells (leb (t .m + news c t rs) (c .C)) (t .m + news c t rs ≤ c .C) (c .C < t .m + news c t rs)
-tells-room c t rs = tells-most (t .m + news c t rs) (c .C)
+tells-room : (c : Settings) (t : Table) (rs : List Row) → Tells (leb (t .m + news c t (keysOf rs)) (c .C)) (t .m + news c t (keysOf rs) ≤ c .C) (c .C < t .m + news c t (keysOf rs))
+tells-room c t rs = tells-most (t .m + news c t (keysOf rs)) (c .C)
 
 -- ---- fresh
 fresh-refuses : (c : Settings) (t : Table) → FreshRefuses c t
@@ -122,8 +122,7 @@ module _ (c : Settings) (t : Table) (b : Settings) (s : Table) where
 
   -- past 1, 2 and 3 both tables are fine
   both-fine : {x : ℕ} {l : List (Bool × ℕ)} {B : Type 0} → T (not (eqb x settings-out-of-range)) → T (not (eqb x other-length)) → T (not (eqb x not-sound)) → Gives l x B
-      → Gives ((ranged c, settings-out-of-range) ∷ (ranged b, settings-out-of-range) ∷ (fits c t, other-length) ∷ (fits b s, other-length)
-      ∷ (sound c t, not-sound) ∷ (sound b s, not-sound) ∷ l) x ((Fine c t × Fine b s) × B)
+      → Gives (eachTests c t b s ++ l) x ((Fine c t × Fine b s) × B)
   both-fine n₁ n₂ n₃ h = reworded (as-one (goes both-ranged n₁ (as-one (goes both-shaped n₂ (as-one (goes both-sound n₃ h)))))) (
     λ p. ((record { ranged = p .0 .0; shape = p .1 .0 .0; sound = p .1 .1 .0 .0 }, record { ranged = p .0 .1; shape = p .1 .0 .1; sound = p .1 .1 .0 .1 }), p .1 .1 .1),
     λ p. ((p .0 .0 .ranged, p .0 .1 .ranged), ((p .0 .0 .shape, p .0 .1 .shape), ((p .0 .0 .sound, p .0 .1 .sound), p .1))),
@@ -169,7 +168,7 @@ module _ (c : Settings) (t : Table) (r : Reading) (size : length (r .position) �
 
   -- past 4 and 5 it is a position
   at-position : {x : ℕ} {l : List (Bool × ℕ)} {B : Type 0} → T (not (eqb x coordinate-beyond)) → T (not (eqb x sum-not-zero)) → Gives l x B
-      → Gives ((allNear (r .position), coordinate-beyond) ∷ (sumsToZero (r .position), sum-not-zero) ∷ l) x (Position (c .d) (r .position) × B)
+      → Gives (positionTests (r .position) ++ l) x (Position (c .d) (r .position) × B)
   at-position n₄ n₅ h = reworded (goes tells-near n₄ (goes tells-zero n₅ h)) (
     λ p. (record { size = size; near = λ i l. abs-of (at (r .position) i) farthest (p .0 i l); zero-sum = p .1 .0 }, p .1 .1),
     λ p. (λ i l. of-abs (at (r .position) i) farthest (p .0 .near i l), (p .0 .zero-sum, p .1)),

@@ -20,7 +20,7 @@ module _ {A : Type 0} (z : A) where
   has-perm {l} {m} p a (i, h, e) = subst (Has l) e (all-at (Has l) m z (all-perm (Has l) p (all-list (Has l) l z (λ i h. (i, h, refl)))) i h)
 
   -- it is the first, or stands in the rest
-  first-or : (b : A) (l : List A) (a : A) → Has (b ∷ l) a → (b ≡ a) ⊎ Has l a
+  pub first-or : (b : A) (l : List A) (a : A) → Has (b ∷ l) a → (b ≡ a) ⊎ Has l a
   first-or b l a (zero, h, e) = inl e
   first-or b l a (suc i, h, e) = inr (i, le-of-suc-le-suc h, e)
 

@@ -1,116 +1,88 @@
 -- Demand 1: "Every call answers for every input: it does its work or refuses with document 01's number, and what a refusal hands back and leaves in
 -- lent memory holds to the byte." The contract of each call allows one outcome, which is its answer with the final contents of all lent memory, and no
--- other. That a call ends, in an outcome that its contract allows, the checker answers for.
+-- other; and no call asks anything. That a call ends, in an outcome that its contract allows, the checker answers for.
 use mathlib.Core.Path.{_≡_}
-use mathlib.Core.Bool.{Bool}
 use mathlib.Core.List.{List}
-use Prim.Native.Nat.{ℕ, suc}
+use Prim.Native.Nat.{ℕ, suc, _*_, _≤_, _<_}
 use lib.IntN.{ℤ}
-use denote.Ref.{RefT}
-use Rattle.table.specs.declared.Head.{Head}
-use Rattle.table.specs.Table.{Settings, Table}
+use base.Logic.{emp}
+use contract.Lifetimes.{Lfts}
+use contract.Monad.{fact}
+use denote.Ref.{RefT, now}
+use denote.Triple.Entry.{Args, Res}
+use denote.Triple.Clauses.{AtExit}
+use borrow.Fn.World.{World}
+use Rattle.whole.specs.Lists.{at}
+use Rattle.table.specs.Table.{Settings, Table, entry}
 use Rattle.table.specs.Calls.{lent, freshRefusal, afterFresh, enterRefusal, enter, mergeRefusal, afterMerge}
-use Rattle.table.specs.Heads.{Answers, Holds, Enters}
-use Rattle.simplex.specs.Slots.{Encloses}
-use Rattle.listing.specs.Listing.{listRefusal, afterList, Lists}
-use Rattle.blur.specs.Inner.{PairIs, Blurred}
-use Rattle.filter.specs.Filter.{Lent, filterRefusal, afterFilter, Filters}
-use Rattle.filter.specs.Inner.{ReplyIs, RepliesAre}
+use Rattle.listing.specs.Listing.{listRefusal, afterList}
+use Rattle.filter.specs.Filter.{Lent, filterRefusal, afterFilter}
 use Rattle.reader.specs.declared.Reader.{Reader}
 use Rattle.reader.specs.declared.items.Item.{Item}
-use Rattle.reader.specs.declared.items.Found.{Found}
-use Rattle.reader.specs.declared.kinds.Kind.{Kind}
-use Rattle.reader.specs.declared.kinds.Meaning.{Meaning}
-use Rattle.reader.specs.Items.{foundAt}
-use Rattle.reader.specs.Inner.{Says}
 use Rattle.reader.specs.Reader.{here, movedOn}
-use Rattle.log.specs.Loading.{load, Loads}
-use Rattle.text.specs.Text.{Written}
-use Rattle.report.specs.Report.{Reports}
-use Rattle.export.specs.Numbers.{headOf}
+use Rattle.promises.specs.Contracts.{One, Answering}
+use Rattle.table.proofs.fresh.fresh as fresh-call
+use Rattle.enter.proofs.enter as enter-call
+use Rattle.merge.proofs.merge as merge-call
+use Rattle.listing.proofs.list as list-call
+use Rattle.filter.proofs.filter as filter-call
+use Rattle.log.proofs.load as load-call
+use Rattle.report.proofs.report as report-call
+use Rattle.export.proofs.vimrothi_fresh as fresh-for-C
+use Rattle.export.proofs.vimrothi_enter as enter-for-C
+use Rattle.export.proofs.vimrothi_merge as merge-for-C
+use Rattle.export.proofs.vimrothi_list as list-for-C
+use Rattle.export.proofs.vimrothi_filter as filter-for-C
+use Rattle.export.proofs.vimrothi_load as load-for-C
+use Rattle.export.proofs.vimrothi_report as report-for-C
+use Rattle.reader.proofs.reader_at as reader-at-call
+use Rattle.reader.proofs.next as next-call
+use Rattle.reader.proofs.read_at as read-at-call
 
--- "two outcomes allowed by a contract are equal",
-abbrev pub Only : {A : Type 0} → (A → Type 0) → Type 0
-Only {A} Allows = (a b : A) → Allows a → Allows b → a ≡ b
-
--- and there is one.
-pub record One {A : Type 0} (Allows : A → Type 0) : Type 0 where
-  pub outcome : A
-  pub allowed : Allows outcome
-  pub only : Only Allows
-
--- What a call on a table answers and leaves; in C the head is its five numbers.
-pub record Left : Type 0 where
-  pub number : ℕ
-  pub head : Head
-  pub keys : List ℤ
-  pub sums : List ℤ
-  pub index : List ℕ
-
-pub record LeftInC : Type 0 where
-  pub number : ℕ
-  pub d : ℕ
-  pub S : ℕ
-  pub C : ℕ
-  pub n : ℕ
-  pub m : ℕ
-  pub keys : List ℤ
-  pub sums : List ℤ
-  pub index : List ℕ
-
-abbrev pub inC : LeftInC → Left
-inC o = record { number = o .number; head = headOf (o .d) (o .S) (o .C) (o .n) (o .m); keys = o .keys; sums = o .sums; index = o .index }
-
--- The contracts, as they stand in the code: settings and a table for the head and the slices that are lent. Fresh and merge:
-abbrev pub AnswerAllows : Settings → ℕ → Table → Left → Type 0
-AnswerAllows c x t o = Answers c x t (o .number) (o .head) (o .keys) (o .sums) (o .index)
-
-abbrev pub FreshAllows : Settings → Table → Left → Type 0
-FreshAllows c t = AnswerAllows c (freshRefusal c t) (afterFresh c t)
-
-abbrev pub MergeAllows : Settings → Table → Settings → Table → Left → Type 0
-MergeAllows c t b s = AnswerAllows c (mergeRefusal c t b s) (afterMerge c t b s)
-
--- enter, with how many it took; and load, with the offset
-abbrev pub EnterAllows : Settings → Table → List ℤ → ℕ × Left → Type 0
-EnterAllows c t l (taken, o) = Enters c (enter c t l) taken (o .number) (o .head) (o .keys) (o .sums) (o .index)
-
-abbrev pub LoadAllows : List ℕ → Table → ℕ × Left → Type 0
-LoadAllows l t (offset, o) = Loads (load l t) (o .number) offset (o .head) (o .keys) (o .sums) (o .index)
-
--- list, filter and report: a number and the lists that are lent to be written
-abbrev pub ListAllows : Settings → Table → List ℕ → ℕ × List ℕ → Type 0
-ListAllows c t list (number, after) = Lists c t list number after
-
-abbrev pub FilterAllows : Settings → Table → List ℤ → Lent → ℕ × Lent → Type 0
-FilterAllows c t queries l (number, o) = Filters c t queries l number (o .first) (o .second) (o .values) (o .codes)
-
-abbrev pub ReportAllows : List ℕ → List ℕ → ℕ × List ℕ → Type 0
-ReportAllows l buffer (bytes, after) = Reports l buffer bytes after
-
--- Statement: each call has one outcome, and so has each of those for C that hands back a head; the others for C have the same contract as the call.
+-- Statement: each call, each function for C, and `read_at` asks nothing, and its contract allows one outcome.
 pub record EveryCallOne : Type 0 where
-  pub fresh-one : (c : Settings) (t : Table) → One (FreshAllows c t)
-  pub enter-one : (c : Settings) (t : Table) (l : List ℤ) → One (EnterAllows c t l)
-  pub merge-one : (c : Settings) (t : Table) (b : Settings) (s : Table) → One (MergeAllows c t b s)
-  pub list-one : (c : Settings) (t : Table) (list : List ℕ) → One (ListAllows c t list)
-  pub filter-one : (c : Settings) (t : Table) (queries : List ℤ) (l : Lent) → One (FilterAllows c t queries l)
-  pub load-one : (l : List ℕ) (t : Table) → One (LoadAllows l t)
-  pub report-one : (l buffer : List ℕ) → One (ReportAllows l buffer)
-  pub fresh-in-C : (c : Settings) (t : Table) → One (λ (o : LeftInC). FreshAllows c t (inC o))
-  pub enter-in-C : (c : Settings) (t : Table) (l : List ℤ) → One (λ (o : ℕ × LeftInC). EnterAllows c t l (o .0, inC (o .1)))
-  pub merge-in-C : (c : Settings) (t : Table) (b : Settings) (s : Table) → One (λ (o : LeftInC). MergeAllows c t b s (inC o))
-  pub load-in-C : (l : List ℕ) (t : Table) → One (λ (o : ℕ × LeftInC). LoadAllows l t (o .0, inC (o .1)))
+  pub fresh : Answering fresh-call.ended fresh-call.Reads.Post fresh-call.Reads.Learnt fresh-call.Reads.Asked
+  pub enter : Answering enter-call.ended enter-call.Reads.Post enter-call.Reads.Learnt enter-call.Reads.Asked
+  pub merge : Answering merge-call.ended merge-call.Reads.Post merge-call.Reads.Learnt merge-call.Reads.Asked
+  pub list : Answering list-call.ended list-call.Reads.Post list-call.Reads.Learnt list-call.Reads.Asked
+  pub filter : Answering filter-call.ended filter-call.Reads.Post filter-call.Reads.Learnt filter-call.Reads.Asked
+  pub load : Answering load-call.ended load-call.Reads.Post load-call.Reads.Learnt load-call.Reads.Asked
+  pub report : Answering report-call.ended report-call.Reads.Post report-call.Reads.Learnt report-call.Reads.Asked
+  pub vimrothi-fresh : Answering fresh-for-C.ended fresh-for-C.Reads.Post fresh-for-C.Reads.Learnt fresh-for-C.Reads.Asked
+  pub vimrothi-enter : Answering enter-for-C.ended enter-for-C.Reads.Post enter-for-C.Reads.Learnt enter-for-C.Reads.Asked
+  pub vimrothi-merge : Answering merge-for-C.ended merge-for-C.Reads.Post merge-for-C.Reads.Learnt merge-for-C.Reads.Asked
+  pub vimrothi-list : Answering list-for-C.ended list-for-C.Reads.Post list-for-C.Reads.Learnt list-for-C.Reads.Asked
+  pub vimrothi-filter : Answering filter-for-C.ended filter-for-C.Reads.Post filter-for-C.Reads.Learnt filter-for-C.Reads.Asked
+  pub vimrothi-load : Answering load-for-C.ended load-for-C.Reads.Post load-for-C.Reads.Learnt load-for-C.Reads.Asked
+  pub vimrothi-report : Answering report-for-C.ended report-for-C.Reads.Post report-for-C.Reads.Learnt report-for-C.Reads.Asked
+  pub read-at : Answering read-at-call.ended read-at-call.Reads.Post read-at-call.Reads.Learnt read-at-call.Reads.Asked
 
--- Statement: so have the functions of the reader: it is made of a log and an offset; it answers the item here and is moved on; and what is read at an
--- offset is the item and where the next one begins.
+-- `reader_at` and `next` have a `Reader`, which holds a reference, and the checker reads no contract off such a function. What each allows is told here: a reader is made of a log and an
+-- offset; it answers the item here, and is moved on.
+abbrev pub ReaderAtAllows : RefT (List ℕ) → ℕ → Reader → Type 0
+ReaderAtAllows log at r = (r .log ≡ log) × (r .at ≡ at)
+
+abbrev pub NextAllows : Reader → Item × Reader → Type 0
+NextAllows reader o = (o .0 ≡ here reader) × (o .1 ≡ movedOn reader)
+
+-- Statement: what `reader_at` allows is one outcome, and so is what `next` allows.
 pub record ReaderOne : Type 0 where
-  pub reader-at-one : (log : RefT (List ℕ)) (at : ℕ) → One (λ (r : Reader). (r .log ≡ log) × (r .at ≡ at))
-  pub next-one : (reader : Reader) → One (λ (o : Item × Reader). (o .0 ≡ here reader) × (o .1 ≡ movedOn reader))
-  pub read-at-one : (l : List ℕ) (a : ℕ) → One (λ (r : Found). r ≡ foundAt l a)
+  pub reader-at-one : (log : RefT (List ℕ)) (at : ℕ) → One (ReaderAtAllows log at)
+  pub next-one : (reader : Reader) → One (NextAllows reader)
+
+-- Statement: the `ensures` of `reader_at` and of `next` is the fact told above and the `requires` is nothing, in every model of the logic in which the code is proved.
+pub record ReaderSays : Type 3 where
+  pub reader-at-says : (w : World) (κs : Lfts 1) (a : Args reader-at-call.signature κs) (r : Res reader-at-call.signature κs) (e : AtExit reader-at-call.ended κs)
+      → reader-at-call.clauses (w .𝓤) (w .H) (w .𝓖 .A) (w .𝓜 .mem) (w .𝓡 .run) κs a .ensures tt r e ≡ fact (w .𝓤) (ReaderAtAllows (a .0) (a .1 .0) r)
+  pub next-says : (w : World) (κs : Lfts 2) (a : Args next-call.signature κs) (r : Res next-call.signature κs) (e : AtExit next-call.ended κs)
+      → next-call.clauses (w .𝓤) (w .H) (w .𝓖 .A) (w .𝓜 .mem) (w .𝓡 .run) κs a .ensures tt r e ≡ fact (w .𝓤) (NextAllows (now (a .0)) (r, now (e .0)))
+  pub reader-at-asks : (w : World) (κs : Lfts 1) (a : Args reader-at-call.signature κs)
+      → reader-at-call.clauses (w .𝓤) (w .H) (w .𝓖 .A) (w .𝓜 .mem) (w .𝓡 .run) κs a .requires tt ≡ emp (w .𝓤)
+  pub next-asks : (w : World) (κs : Lfts 2) (a : Args next-call.signature κs)
+      → next-call.clauses (w .𝓤) (w .H) (w .𝓖 .A) (w .𝓜 .mem) (w .𝓡 .run) κs a .requires tt ≡ emp (w .𝓤)
 
 -- Statement: "A call refused as a whole hands back the head it was given and changes no lent memory. A refused fresh call hands back d, S and C as given,
--- with n and m 0."
+-- with n and m 0." Here of the counts n and m and of memory; that d, S and C come back as given is in the contracts, by `Answers`. Of load it is `LoadRefuses`.
 pub record RefusedLeavesAll : Type 0 where
   pub fresh-refused : (c : Settings) (t : Table) (x : ℕ) → freshRefusal c t ≡ suc x → afterFresh c t ≡ lent (t .keys) (t .sums) (t .index)
   pub enter-refused : (c : Settings) (t : Table) (l : List ℤ) (x : ℕ) → enterRefusal c t l ≡ suc x → enter c t l ≡ record { taken = 0; number = suc x; table = t }
@@ -118,19 +90,15 @@ pub record RefusedLeavesAll : Type 0 where
   pub list-refused : (c : Settings) (t : Table) (list : List ℕ) (x : ℕ) → listRefusal c t list ≡ suc x → afterList c t list ≡ list
   pub filter-refused : (c : Settings) (t : Table) (queries : List ℤ) (l : Lent) (x : ℕ) → filterRefusal c t queries l ≡ suc x → afterFilter c t queries l ≡ l
 
--- Statement: the functions that are `pub` only because another crate of the library calls them have no second outcome either; docs/INNER.md lists them with
--- what they ask. Most of their contracts say that the answer, or the memory left, equals a definition;
-abbrev pub EqualOnly : Type 1
-EqualOnly = (A : Type 0) (x : A) → Only (λ (r : A). r ≡ x)
+-- What stays where the table t of settings c becomes u: keys and sums past the last point of u, the keys of the points of t, and the index places that named one of these.
+pub record LeftAlone (c : Settings) (t u : Table) : Type 0 where
+  pub points : t .m ≤ u .m
+  pub keys-past : (i : ℕ) → c .d * u .m ≤ i → at (u .keys) i ≡ at (t .keys) i
+  pub keys-there : (i : ℕ) → i < c .d * t .m → at (u .keys) i ≡ at (t .keys) i
+  pub sums-past : (i : ℕ) → 2 * u .m ≤ i → at (u .sums) i ≡ at (t .sums) i
+  pub named : (p : ℕ) → 0 < entry t p → entry u p ≡ entry t p
 
--- the others say more parts.
-pub record InnerOnly : Type 0 where
-  pub content-at : (l : List ℕ) (a : ℕ) (k : Kind) (numbers : List ℤ) → Only (λ (r : Meaning × List ℤ). Says l a k numbers (r .0) (r .1))
-  pub enclose : (d S : ℕ) (x : List ℤ) → Only (λ (r : List ℕ × List ℤ). Encloses d S x (r .0) (r .1))
-  pub add-row : (t : Table) → Only (λ (r : ℕ × List ℤ × List ℤ × List ℕ). Holds t (r .0) (r .1) (r .2) (r .3))
-  pub enter-one : (c : Settings) (x : ℕ) (t : Table) → Only (AnswerAllows c x t)
-  pub pair-of : (c : Settings) (t : Table) (y : List ℤ) → Only (λ (r : Bool × ℤ × ℤ). PairIs c t y (r .0) (r .1) (r .2))
-  pub blur : (c : Settings) (t : Table) → Only (λ (r : List ℤ × List ℤ). Blurred c t (r .0) (r .1))
-  pub reply-at : (c : Settings) (t : Table) (q : List ℤ) → Only (λ (r : ℤ × ℕ). ReplyIs c t q (r .0) (r .1))
-  pub reply-all : (c : Settings) (t : Table) (queries : List ℤ) → Only (λ (r : List ℤ × List ℕ). RepliesAre c t queries (r .0) (r .1))
-  pub put-line : (buffer : List ℕ) (a : ℕ) (text : List ℕ) → Only (λ (r : ℕ × List ℕ). Written buffer a text (r .0) (r .1))
+-- Statement: an accepted enter and an accepted merge leave alone what `LeftAlone` says.
+pub record AcceptedLeavesAlone : Type 0 where
+  pub enter-accepted : (c : Settings) (t : Table) (l : List ℤ) → enterRefusal c t l ≡ 0 → LeftAlone c t (enter c t l .table)
+  pub merge-accepted : (c : Settings) (t : Table) (b : Settings) (s : Table) → mergeRefusal c t b s ≡ 0 → LeftAlone c t (afterMerge c t b s)

@@ -11,10 +11,11 @@ use Rattle.whole.specs.Rounding.{Rounds}
 use Rattle.whole.specs.Lists.{at}
 use Rattle.lattice.specs.Lattice.{Point}
 use Rattle.lattice.specs.Weight.{weight}
-use Rattle.table.specs.Table.{Settings, Table, found, held}
+use Rattle.table.specs.Table.{Settings, Table, keysOf, found, held}
 use Rattle.table.specs.Pour.{news}
 use Rattle.table.specs.Reading.{Reading, shares, refusal, entered}
-use Rattle.table.specs.Theorems.{Usable, plus}
+use Rattle.table.specs.Theorems.{plus}
+use Rattle.table.specs.Sound.{Fine}
 use Rattle.blur.specs.Blur.{plusStep, minusStep, isStored, massAfter, valueAfter, blurredMass, blurredValue}
 use Rattle.blur.specs.Sheet.{withSums, blurredSheet}
 use Rattle.filter.specs.Answer.{weighted, code, answer}
@@ -28,10 +29,10 @@ pub record Entered (c : Settings) (t : Table) (r : Reading) : Type 0 where
   pub stored : (y : List ℤ) → Point (c .d) y → (0 < found c (entered c t r) (take (c .d) y)) ↔ ((0 < found c t (take (c .d) y)) ⊎ (0 < weight (c .d) (c .S) (at (r .position)) (at y)))
   pub readings : entered c t r .n ≡ t .n + 1
   -- "Only the points that are new count."
-  pub points : entered c t r .m ≡ t .m + news c t (shares (c .d) (c .S) r)
+  pub points : entered c t r .m ≡ t .m + news c t (keysOf (shares (c .d) (c .S) r))
 
 abbrev pub EntersEachReading : Type 0
-EntersEachReading = (c : Settings) (t : Table) (r : Reading) → length (r .position) ≡ suc (c .d) → Usable c t → refusal c t r ≡ 0 → Entered c t r
+EntersEachReading = (c : Settings) (t : Table) (r : Reading) → length (r .position) ≡ suc (c .d) → Fine c t → refusal c t r ≡ 0 → Entered c t r
 
 -- "Each stored point's new pair is its old pair twice, plus the old pairs at point plus step and at point minus step; a neighbour that is not stored
 -- counts as 0.": pass k of one of the two numbers of each point, f before it and g after it
@@ -49,7 +50,7 @@ pub record Blurs (c : Settings) (t : Table) : Type 0 where
   pub on-the-sheet : (y : List ℤ) → held c (withSums t (blurredSheet c t)) y ≡ (massAfter c t (suc (c .d)) y, valueAfter c t (suc (c .d)) y)
 
 abbrev pub BlursEachPoint : Type 0
-BlursEachPoint = (c : Settings) (t : Table) → Usable c t → Blurs c t
+BlursEachPoint = (c : Settings) (t : Table) → Fine c t → Blurs c t
 
 -- "the sum over stored points of weight times blurred value sum, divided by the same with blurred mass. Rounded to the nearest whole number, a half
 -- goes away from zero."
@@ -65,4 +66,4 @@ pub record AnswersIt (c : Settings) (t : Table) (q : List ℤ) : Type 0 where
   pub beside : (code c t q ≡ 0 → ⊥) → answer c t q ≡ pos 0
 
 abbrev pub AnswersEachQuery : Type 0
-AnswersEachQuery = (c : Settings) (t : Table) → Usable c t → (q : List ℤ) → AnswersIt c t q
+AnswersEachQuery = (c : Settings) (t : Table) → Fine c t → (q : List ℤ) → AnswersIt c t q

@@ -1,8 +1,12 @@
 pub mod History
 pub mod Order
+pub mod Acceptance
+pub mod Printing
 pub mod Filter
 pub mod Refusals
 pub mod LogRefusals
+pub mod Contracts
 pub mod EveryCall
+pub mod Inner
 pub mod Starred
 pub mod Worked

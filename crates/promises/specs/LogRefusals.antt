@@ -1,4 +1,4 @@
--- Demand 2, of logs: "A half file is told at which byte." When each refusal of the log and of the program comes, what it tells, and what it leaves.
+-- Demand 1, of logs: "A half file is told at which byte." Demand 2, of logs and of the program: when each refusal comes, what it tells, and what it leaves.
 use mathlib.Core.Path.{_≡_}
 use mathlib.Core.Logic.{_↔_, _⊎_}
 use mathlib.Core.List.{List}

@@ -2,7 +2,7 @@
 -- between the least and the greatest value entered."
 use mathlib.Core.Path.{_≡_}
 use mathlib.Core.List.{List, [], map, Perm}
-use Prim.Native.Nat.{ℕ, _*_, _-_, _≤_, _<_}
+use Prim.Native.Nat.{ℕ, _*_, _-_, _<_}
 use lib.Dec.{T}
 use lib.IntN.{ℤ, pos, _*ℤ_}
 use lib.ListN.{length, getD, take}
@@ -14,17 +14,11 @@ use Rattle.lattice.specs.Lattice.{Point}
 use Rattle.lattice.specs.Weight.{W, weight, least, greatest}
 use Rattle.table.specs.Table.{Settings, Table, Row, whole, massOf}
 use Rattle.table.specs.Reading.{Reading}
-use Rattle.table.specs.Calls.{fresh}
-use Rattle.table.specs.Theorems.{Usable}
-use Rattle.listing.specs.Order.{before}
+use Rattle.table.specs.Sound.{Fine}
+use Rattle.listing.specs.Order.{precedes}
 use Rattle.listing.specs.Listing.{listed}
 use Rattle.filter.specs.Answer.{code, answer}
 use Rattle.filter.specs.Theorems.{SameAnswer}
-use Rattle.reader.specs.Items.{settingsOf}
-use Rattle.reader.specs.Walk as log
-use Rattle.log.specs.Loading.{load}
-use Rattle.reader.specs.Walk.{items}
-use Rattle.report.specs.Report.{most-bytes, settingsRefusal, report}
 use Rattle.promises.specs.History.{History, settingsIn, run, Begun, taken, NoneRefused, readings}
 
 -- "add w to its mass and w·v to its value sum": what readings give to the lattice point y, each by its weight alone
@@ -44,7 +38,7 @@ pub record RowFrom (d S : ℕ) (rs : List Reading) (r : Row) : Type 0 where
 -- The sorted listing of readings, which speaks of no table: such rows, ascending, and no lattice point is missing to which a reading gives weight.
 pub record ListedFrom (d S : ℕ) (rs : List Reading) (l : List Row) : Type 0 where
   pub each : All (RowFrom d S rs) l
-  pub ascending : Each (λ a b. T (before (a .key) (b .key))) l
+  pub ascending : Each (λ a b. T (precedes (a .key) (b .key))) l
   pub full : (y : List ℤ) → Point d y → pos 1 ≤ℤ massFrom d S rs y → (i : ℕ) × (i < length l) × (getD (map (λ r. r .key) l) i [] ≡ take d y)
 
 -- the values entered: the least and the greatest of them
@@ -59,7 +53,7 @@ greatestIn rs = greatest (length rs - 1) (valueIn rs)
 
 -- What a table c, t is held to that was made of the readings rs:
 pub record MadeOf (d S : ℕ) (rs : List Reading) (c : Settings) (t : Table) : Type 0 where
-  pub usable : Usable c t
+  pub fine : Fine c t
   -- it counts them,
   pub counts : t .n ≡ length rs
   -- its points are listed as theirs,
@@ -67,6 +61,8 @@ pub record MadeOf (d S : ℕ) (rs : List Reading) (c : Settings) (t : Table) : T
   pub points : t .m ≡ length (listed c t)
   -- its total mass is W times their number,
   pub total : over (listed c t) massOf ≡ pos (W d S * length rs)
+  -- its total of value sums is W times the sum of the values entered: no dye is lost,
+  pub value-total : over (listed c t) (λ r. r .value) ≡ pos (W d S) *ℤ over rs (λ r. r .value)
   -- and "an answer lies between the least and the greatest value entered".
   pub between : (q : List ℤ) → code c t q ≡ 0 → Within (leastIn rs) (greatestIn rs) (answer c t q)
 
@@ -84,25 +80,15 @@ pub record Same (c : Settings) (t : Table) (b : Settings) (s : Table) : Type 0 w
   pub same-readings : t .n ≡ s .n
   pub same-points : t .m ≡ s .m
   pub same-total : over (listed c t) massOf ≡ over (listed b s) massOf
+  pub same-value-total : over (listed c t) (λ r. r .value) ≡ over (listed b s) (λ r. r .value)
   pub same-answers : (q : List ℤ) → SameAnswer c t b s q
 
--- Statement: "any order, any sharing among merged tables", of the same readings taken,
+-- Statement: "any order, any sharing among merged tables", of two histories that took the same readings.
 abbrev pub TakenInAnyOrder : Type 0
 TakenInAnyOrder = (d S : ℕ) (h g : History) → Begun d S h → Begun d S g → Perm (taken d S h) (taken d S g)
     → Same (settingsIn d S h) (run d S h) (settingsIn d S g) (run d S g)
 
--- and so of the same readings, where no call was refused.
+-- Statement: the same of two histories in which no call was refused, of all their readings.
 abbrev pub OrderDoesNotMatter : Type 0
 OrderDoesNotMatter = (d S : ℕ) (h g : History) → NoneRefused d S h → NoneRefused d S g → Perm (readings d h) (readings d g)
     → Same (settingsIn d S h) (run d S h) (settingsIn d S g) (run d S g)
-
--- a log that `dyemap` does not refuse
-pub record Printed (l : List ℕ) : Type 0 where
-  pub short : length l ≤ most-bytes
-  pub settled : settingsRefusal l ≡ 0
-  pub taken : load l (fresh (settingsOf l)) .number ≡ 0
-
--- Statement: and so of what `dyemap` prints: two logs of one d and S that are not refused, with the same readings in any order and the same queries, print the same bytes
-abbrev pub PrintedTheSame : Type 0
-PrintedTheSame = (l m : List ℕ) → Printed l → Printed m → settingsOf l .d ≡ settingsOf m .d → settingsOf l .S ≡ settingsOf m .S
-    → Perm (log.readings (items l)) (log.readings (items m)) → log.queries (items l) ≡ log.queries (items m) → report l ≡ report m

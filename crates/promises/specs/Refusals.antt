@@ -11,12 +11,11 @@ use Rattle.whole.specs.Lists.{at}
 use Rattle.lattice.specs.Limits.{farthest, most-value, most-readings}
 use Rattle.lattice.specs.Refusals.{settings-out-of-range, other-length, not-sound, coordinate-beyond, sum-not-zero, value-beyond, too-many-readings, too-many-points, settings-differ, no-mass-met}
 use Rattle.lattice.specs.Position.{Position}
-use Rattle.table.specs.Table.{Settings, Table, rows}
+use Rattle.table.specs.Table.{Settings, Table, rows, keysOf}
 use Rattle.table.specs.Sound.{Sound, Ranged, Shape, Fine}
 use Rattle.table.specs.Pour.{news}
 use Rattle.table.specs.Reading.{Reading, parsed, shares, refusal}
 use Rattle.table.specs.Calls.{Outcome, freshRefusal, enterRefusal, enterAll, enter, mergeRefusal}
-use Rattle.table.specs.Theorems.{Usable}
 use Rattle.listing.specs.Listing.{listRefusal}
 use Rattle.filter.specs.Answer.{code}
 use Rattle.filter.specs.Filter.{Lent, filterRefusal}
@@ -65,23 +64,24 @@ pub record MergeRefuses (c : Settings) (t : Table) (b : Settings) (s : Table) : 
   pub nine : mergeRefusal c t b s ≡ settings-differ ↔ (Fine c t × Fine b s) × Not ((c .d ≡ b .d) × (c .S ≡ b .S))
   pub seven : mergeRefusal c t b s ≡ too-many-readings ↔ (Fine c t × Fine b s) × ((c .d ≡ b .d) × (c .S ≡ b .S)) × (most-readings < t .n + s .n)
   pub eight : mergeRefusal c t b s ≡ too-many-points
-      ↔ (Fine c t × Fine b s) × ((c .d ≡ b .d) × (c .S ≡ b .S)) × (t .n + s .n ≤ most-readings) × (c .C < t .m + news c t (rows b s))
+      ↔ (Fine c t × Fine b s) × ((c .d ≡ b .d) × (c .S ≡ b .S)) × (t .n + s .n ≤ most-readings) × (c .C < t .m + news c t (keysOf (rows b s)))
   pub none : mergeRefusal c t b s ≡ 0
-      ↔ (Fine c t × Fine b s) × ((c .d ≡ b .d) × (c .S ≡ b .S)) × (t .n + s .n ≤ most-readings) × (t .m + news c t (rows b s) ≤ c .C)
+      ↔ (Fine c t × Fine b s) × ((c .d ≡ b .d) × (c .S ≡ b .S)) × (t .n + s .n ≤ most-readings) × (t .m + news c t (keysOf (rows b s)) ≤ c .C)
 
--- "then for each reading 4, 5, 6, 7, 8": a reading of d+1 coordinates
+-- "A value is from -1,000,000 to 1,000,000": so is that of a reading
 abbrev pub Fair : Reading → Type 0
 Fair r = natAbs (r .value) ≤ most-value
 
+-- "then for each reading 4, 5, 6, 7, 8": of a reading of d+1 coordinates, entered into the table t
 pub record ReadingRefused (c : Settings) (t : Table) (r : Reading) : Type 0 where
   pub four : refusal c t r ≡ coordinate-beyond ↔ (i : ℕ) × (i < suc (c .d)) × (farthest < natAbs (at (r .position) i))
   pub five : refusal c t r ≡ sum-not-zero ↔ ((i : ℕ) → i < suc (c .d) → natAbs (at (r .position) i) ≤ farthest) × Not (sum (suc (c .d)) (at (r .position)) ≡ pos 0)
   pub six : refusal c t r ≡ value-beyond ↔ Position (c .d) (r .position) × Not (Fair r)
   pub seven : refusal c t r ≡ too-many-readings ↔ Position (c .d) (r .position) × Fair r × (most-readings < t .n + 1)
   pub eight : refusal c t r ≡ too-many-points
-      ↔ Position (c .d) (r .position) × Fair r × (t .n + 1 ≤ most-readings) × (c .C < t .m + news c t (shares (c .d) (c .S) r))
+      ↔ Position (c .d) (r .position) × Fair r × (t .n + 1 ≤ most-readings) × (c .C < t .m + news c t (keysOf (shares (c .d) (c .S) r)))
   pub none : refusal c t r ≡ 0
-      ↔ Position (c .d) (r .position) × Fair r × (t .n + 1 ≤ most-readings) × (t .m + news c t (shares (c .d) (c .S) r) ≤ c .C)
+      ↔ Position (c .d) (r .position) × Fair r × (t .n + 1 ≤ most-readings) × (t .m + news c t (keysOf (shares (c .d) (c .S) r)) ≤ c .C)
 
 -- "It stops at the first refused reading and answers how many it took, the number (0 if all), and the new head. The table holds those taken and
 -- nothing of the refused one.": the readings taken, entered alone, are all taken and leave that table; the next is refused with the number
@@ -105,4 +105,4 @@ pub record RefusalsExact : Type 0 where
   pub merge-call : (c : Settings) (t : Table) (b : Settings) (s : Table) → MergeRefuses c t b s
   pub list-call : (c : Settings) (t : Table) (l : List ℕ) → CallRefuses c t (ListLengths c t l) (listRefusal c t l)
   pub filter-call : (c : Settings) (t : Table) (queries : List ℤ) (l : Lent) → CallRefuses c t (FilterLengths c t queries l) (filterRefusal c t queries l)
-  pub query : (c : Settings) (t : Table) → Usable c t → (q : List ℤ) → length q ≡ suc (c .d) → QueryRefused c t q
+  pub query : (c : Settings) (t : Table) → Fine c t → (q : List ℤ) → length q ≡ suc (c .d) → QueryRefused c t q

@@ -1,19 +1,21 @@
--- Document 01's worked log in four ways, as the definitions compute it: loaded, its two readings entered in one list, each reading in a table of its
--- own, and the log cut in its second reading, which is entered again. So the theorems on histories speak of something.
+-- Document 01's worked log in five ways, as the definitions compute it: loaded, its two readings entered in one list, each reading in a table of its
+-- own, the log cut in its second reading, which is entered again, and a table of another fineness offered on the way. So the theorems on histories speak of something.
 use mathlib.Core.Path.{_≡_}
 use mathlib.Core.List.{List, [], _∷_}
 use Prim.Native.Nat.{ℕ, _*_}
 use lib.IntN.{pos, negsuc}
 use lib.ListN.{take, replicate}
 use Rattle.table.specs.Table.{Table, Row}
-use Rattle.table.specs.Calls.{lent}
+use Rattle.table.specs.Reading.{parsed}
+use Rattle.table.specs.Calls.{lent, fresh}
 use Rattle.table.specs.Worked.{bothReadings}
 use Rattle.listing.specs.Listing.{listed}
 use Rattle.filter.specs.Answer.{answer}
 use Rattle.filter.specs.Worked.{near}
 use Rattle.reader.specs.Worked.{workedLog}
 use Rattle.log.specs.Loading.{load}
-use Rattle.promises.specs.History.{History, starting, entering, merging, loading, settingsIn, run, Begun, NoneRefused}
+use Rattle.promises.specs.History.{History, starting, entering, merging, offering, loading, settingsIn, run, Begun, NoneRefused}
+use Rattle.promises.specs.Acceptance.{FitInto}
 
 -- slices for C points at d = 1, which hold other numbers
 abbrev pub slices : ℕ → Table
@@ -33,6 +35,10 @@ asTables = merging (entering (starting 3 (slices 3)) (pos 2 ∷ negsuc 1 ∷ pos
 abbrev pub asHalfALog : History
 asHalfALog = entering (loading (take 30 workedLog) (slices 8)) (pos 2 ∷ negsuc 1 ∷ pos 4 ∷ [])
 
+-- a table of another fineness was offered, and refused
+abbrev pub withAnOffer : History
+withAnOffer = offering asAList (record { d = 1; S = 3; C = 8 }) (fresh (record { d = 1; S = 3; C = 8 }))
+
 -- "POINT 1 -1 6 36", "POINT 2 -2 2 20", "ANSWER 7 0"
 abbrev pub bothPoints : List Row
 bothPoints = record { key = pos 1 ∷ []; mass = pos 6; value = pos 36 } ∷ record { key = pos 2 ∷ []; mass = pos 2; value = pos 20 } ∷ []
@@ -47,5 +53,9 @@ pub record WorkedWays : Type 0 where
   pub list-way : Way asAList
   pub tables-way : Way asTables
   pub half-way : Way asHalfALog
+  pub offer-way : Way withAnOffer
   pub none-refused : NoneRefused 1 2 asALog × NoneRefused 1 2 asAList × NoneRefused 1 2 asTables
+  -- the two readings fit where two points have room, and not where one has
+  pub two-fit : FitInto 1 2 2 (parsed 1 bothReadings)
+  pub one-does-not : FitInto 1 2 1 (parsed 1 bothReadings) → ⊥
   pub half-refused : load (take 30 workedLog) (slices 8) .number ≡ 15

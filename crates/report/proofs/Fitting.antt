@@ -39,7 +39,7 @@ refused-fits x a = line-fits refused-word (pos x ∷ pos a ∷ [])
 
 -- a point has d + 1 coordinates and a pair
 point-fits : (c : Settings) (t : Table) (i : ℕ) → c .d ≤ most-d → length (pointLine c t i) ≤ 182
-point-fits c t i h = omega (arith, line-fits point-word (pointNumbers c t i), numbers-size c t i)
+point-fits c t i h = omega (arith, line-fits point-word (pointNumbers c t i), numbers-size (c .d) (t .keys) (t .sums) i)
 
 -- ---- so many of them
 collect-fits : {A : Type 0} (n b : ℕ) (g : ℕ → List A) → ((i : ℕ) → length (g i) ≤ b) → length (collect n g) ≤ b * n

@@ -20,13 +20,13 @@ use Rattle.whole.proofs.Signed.{zlin, zeq}
 use Rattle.whole.proofs.Sum.{sum-cong, sum-list}
 use Rattle.lattice.specs.Limits.{most-d}
 use Rattle.index.specs.Keys.{keyAt}
-use Rattle.table.specs.Table.{Settings, Table, key, mass, value, whole}
+use Rattle.table.specs.Table.{Settings, Table, whole}
 use Rattle.table.specs.declared.Head.{Head}
 use Rattle.table.proofs.Lists.{tab-snoc}
 use Rattle.table.proofs.Good.{whole-size}
 use Rattle.text.specs.Text.{line, Written}
-use Rattle.report.specs.Report.{most-bytes, pointNumbers}
-use Rattle.report.specs.Inner.{most-numbers, padded, HeadRoom, StoredIn}
+use Rattle.report.specs.Report.{most-bytes}
+use Rattle.report.specs.Inner.{most-in-line, numbersAt, lineNumbers, HeadRoom, Printable, LiesIn}
 
 -- ---- a line of numbers that are those asked for
 pub room-for : {x y : List ℤ} (word : List ℕ) (a size : ℕ) → x ≡ y → a + length (line word y) ≤ size → a + length (line word x) ≤ size
@@ -54,60 +54,71 @@ head-numbers h size r f =
 
 -- ---- an array of zeros that is filled from the front
 abbrev pub filled : List ℤ → List ℤ
-filled l = l ++ replicate (most-numbers - length l) (pos 0)
+filled l = l ++ replicate (most-in-line - length l) (pos 0)
 
 -- one more number in the first of the places that are left
 store : (l : List ℤ) (n left : ℕ) (v : ℤ) → length l ≡ n → set (l ++ replicate (suc left) (pos 0)) n v ≡ (l ++ (v ∷ [])) ++ replicate left (pos 0)
 store l n left v e = set-at l (pos 0) (replicate left (pos 0)) v n e ∙ sym (append-assoc l (v ∷ []) (replicate left (pos 0)))
 
-stored : {a : List ℤ} {v w : ℤ} (l : List ℤ) (n : ℕ) → a ≡ filled l → v ≡ w → length l ≡ n → n < most-numbers → set a n v ≡ filled (l ++ (w ∷ []))
+stored : {a : List ℤ} {v w : ℤ} (l : List ℤ) (n : ℕ) → a ≡ filled l → v ≡ w → length l ≡ n → n < most-in-line → set a n v ≡ filled (l ++ (w ∷ []))
 stored {a} {v} {w} l n e k s h =
-    let p : most-numbers - length l ≡ suc (most-numbers - suc n) = omega arith in
-    let q : most-numbers - length (l ++ (w ∷ [])) ≡ most-numbers - suc n = omega (arith, length-append l (w ∷ [])) in
-    rw (e, k, p, q) (store l n (most-numbers - suc n) w s)
+    let p : most-in-line - length l ≡ suc (most-in-line - suc n) = omega arith in
+    let q : most-in-line - length (l ++ (w ∷ [])) ≡ most-in-line - suc n = omega (arith, length-append l (w ∷ [])) in
+    rw (e, k, p, q) (store l n (most-in-line - suc n) w s)
 
 -- ---- the kept coordinates
 abbrev pub kept : List ℤ → ℕ → ℕ → ℤ
 kept keys start j = at keys (start + j)
 
-pub one-more : {a : List ℤ} {v : ℤ} (f : ℕ → ℤ) (j : ℕ) → j < most-numbers → a ≡ filled (tab j f) → v ≡ f j → set a j v ≡ filled (tab (j + 1) f)
+pub one-more : {a : List ℤ} {v : ℤ} (f : ℕ → ℤ) (j : ℕ) → j < most-in-line → a ≡ filled (tab j f) → v ≡ f j → set a j v ≡ filled (tab (j + 1) f)
 one-more f j h e k = stored (tab j f) j e k (length-tab j f) h ∙ ap filled (sym (tab-snoc j f) ∙ ap (λ (n : ℕ). tab n f) (sym (add-one j)))
 
--- the stretch of a stored point lies within the keys
-pub key-inside : {c : Settings} {t : Table} {i : ℕ} → StoredIn c t i → c .d * i + c .d ≤ length (t .keys)
-key-inside {c} {t} {i} s =
-    let F = s .printable .fine in
+-- the stretch and the pair of a stored point lie within the keys and the sums
+pub lies-in : {c : Settings} {t : Table} {i : ℕ} → Printable c t → i < t .m → LiesIn (c .d) (t .keys) (t .sums) i
+lies-in {c} {t} {i} P h =
+    let F = P .fine in
     let m : suc i ≤ c .C = omega (arith, F .sound .indexed .sparse .room) in
-    omega (arith, F .shape .keys, mul-le-mul-left (c .d) m)
+    record {
+      d-most = F .ranged .d-most;
+      few = omega (arith, P .few);
+      stretch = omega (arith, F .shape .keys, mul-le-mul-left (c .d) m);
+      pair = omega (arith, F .shape .sums);
+    }
 
 -- ---- all of them
-module _ (c : Settings) (t : Table) (i : ℕ) where
-  last-is : negℤ (sum (c .d) (kept (t .keys) (c .d * i))) ≡ negℤ (over (key c t i) (λ z. z))
+module _ (d : ℕ) (keys sums : List ℤ) (i : ℕ) where
+  last-is : negℤ (sum d (kept keys (d * i))) ≡ negℤ (over (keyAt d keys i) (λ z. z))
   unfolding keyAt
-  last-is = let d = c .d in let f = kept (t .keys) (d * i) in
+  last-is = let f = kept keys (d * i) in
       ap negℤ (sum-cong d f (at (tab d f)) (λ j l. sym (getD-tab d f j (pos 0) l))
       ∙ ap (λ (n : ℕ). sum n (at (tab d f))) (sym (length-tab d f)) ∙ sum-list (tab d f) (pos 0) (λ z. z))
 
-  key-size : length (key c t i) ≡ c .d
+  key-size : length (keyAt d keys i) ≡ d
   unfolding keyAt
-  key-size = length-tab (c .d) (kept (t .keys) (c .d * i))
+  key-size = length-tab d (kept keys (d * i))
 
-  pub numbers-size : length (pointNumbers c t i) ≡ c .d + 3
-  numbers-size = omega (arith, length-append (whole (key c t i)) (mass t i ∷ value t i ∷ []), whole-size (key c t i), key-size)
+  abbrev mass : ℤ
+  mass = at sums (2 * i)
 
-  pub point-done : {a : List ℤ} {x y z : ℤ} (j : ℕ) → j ≡ c .d → c .d ≤ most-d → a ≡ filled (tab j (kept (t .keys) (c .d * i)))
-      → x ≡ negℤ (sum j (kept (t .keys) (c .d * i))) → y ≡ mass t i → z ≡ value t i
-      → set (set (set a (c .d) x) (c .d + 1) y) (c .d + 2) z ≡ padded c t i
+  abbrev value : ℤ
+  value = at sums (2 * i + 1)
+
+  pub numbers-size : length (numbersAt d keys sums i) ≡ d + 3
+  numbers-size = omega (arith, length-append (whole (keyAt d keys i)) (mass ∷ value ∷ []), whole-size (keyAt d keys i), key-size)
+
+  pub point-done : {a : List ℤ} {x y z : ℤ} (j : ℕ) → j ≡ d → d ≤ most-d → a ≡ filled (tab j (kept keys (d * i)))
+      → x ≡ negℤ (sum j (kept keys (d * i))) → y ≡ mass → z ≡ value
+      → set (set (set a d x) (d + 1) y) (d + 2) z ≡ lineNumbers d keys sums i
   unfolding keyAt whole
   point-done {a} {x} {y} {z} j h l e p q r =
-      let k = whole (key c t i) in
-      let first : set a (c .d) x ≡ filled k = stored (key c t i) (c .d) (rw h at e) ((rw h at p) ∙ last-is) key-size (omega arith) in
-      let n : length k ≡ c .d + 1 = whole-size (key c t i) ∙ omega (arith, key-size) in
-      let n′ : length (k ++ (mass t i ∷ [])) ≡ c .d + 2 = length-append k (mass t i ∷ []) ∙ omega arith in
-      stored (k ++ (mass t i ∷ [])) (c .d + 2) (stored k (c .d + 1) first q n (omega arith)) r n′ (omega arith)
-      ∙ ap filled (append-assoc k (mass t i ∷ []) (value t i ∷ []))
-      ∙ ap (λ (n : ℕ). pointNumbers c t i ++ replicate (most-numbers - n) (pos 0)) numbers-size
+      let k = whole (keyAt d keys i) in
+      let first : set a d x ≡ filled k = stored (keyAt d keys i) d (rw h at e) ((rw h at p) ∙ last-is) key-size (omega arith) in
+      let n : length k ≡ d + 1 = whole-size (keyAt d keys i) ∙ omega (arith, key-size) in
+      let n′ : length (k ++ (mass ∷ [])) ≡ d + 2 = length-append k (mass ∷ []) ∙ omega arith in
+      stored (k ++ (mass ∷ [])) (d + 2) (stored k (d + 1) first q n (omega arith)) r n′ (omega arith)
+      ∙ ap filled (append-assoc k (mass ∷ []) (value ∷ []))
+      ∙ ap (λ (n : ℕ). numbersAt d keys sums i ++ replicate (most-in-line - n) (pos 0)) numbers-size
 
   -- the part of the array that is printed
-  pub part-is : {a : List ℤ} → a ≡ padded c t i → take (c .d + 3 - 0) a ≡ pointNumbers c t i
-  part-is e = rw e (take-at (pointNumbers c t i) _ (c .d + 3 - 0) (numbers-size ∙ omega arith))
+  pub part-is : {a : List ℤ} → a ≡ lineNumbers d keys sums i → take (d + 3 - 0) a ≡ numbersAt d keys sums i
+  part-is e = rw e (take-at (numbersAt d keys sums i) _ (d + 3 - 0) (numbers-size ∙ omega arith))

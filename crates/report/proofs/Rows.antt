@@ -7,9 +7,11 @@ use native.Mathlib.Numerals.{add-one}
 use native.Mathlib.Decide.{decLe}
 use native.Mathlib.Omega.{arith}
 use lib.Dec.{T, eqb}
+use lib.IntN.{ℤ}
 use lib.ListN.{length, getD, replicate, length-append, List·getD-append}
 use borrow.Author.Tests.{eq-eqb}
 use Rattle.whole.specs.Lists.{collect}
+use Rattle.whole.proofs.Lists.{collect-cong}
 use Rattle.whole.proofs.Tests.{and-i, T-true}
 use Rattle.lattice.specs.Refusals.{first}
 use Rattle.table.specs.Table.{Settings, Table}
@@ -23,7 +25,8 @@ use Rattle.listing.proofs.Listings.{order-length, order-low}
 use Rattle.text.specs.Text.{Written}
 use Rattle.text.proofs.Lines.{written-nothing, written-then, written-room}
 use Rattle.report.specs.Report.{pointLine, pointLines}
-use Rattle.report.specs.Inner.{PointRoom, RowsRoom, PointsRoom}
+use Rattle.report.specs.Inner.{lineAt, linesIn, PointRoom, RowsRoom, PointsRoom}
+use Rattle.report.proofs.Numbers.{lies-in}
 
 -- ---- lists one after the other, the first of them
 collect-part : {A : Type 0} (g : ℕ → List A) (j n : ℕ) → j ≤ n → length (collect j g) ≤ length (collect n g)
@@ -35,40 +38,28 @@ collect-part g j (suc n) h = go (decLe j n) (collect-part g j n)
     go (yes k) f = omega (arith, f k, length-append (collect n g) (g n))
     go (no k) f = let e : j ≡ suc n = omega arith in rw e (omega arith)
 
--- ---- the line of the point at place j of the listing, and the lines of the first j
-abbrev lineAt : Settings → Table → ℕ → List ℕ
-lineAt c t j = pointLine c t (getD (order c t) j 0)
+-- ---- the lines of the first j
+pub rows-start : (d : ℕ) (keys sums : List ℤ) (list o : List ℕ) (a : ℕ) → Written o a (linesIn d keys sums list 0) a o
+unfolding linesIn collect
+rows-start d keys sums list o a = written-nothing o a
 
-abbrev pub firstLines : Settings → Table → ℕ → List ℕ
-firstLines c t j = collect j (lineAt c t)
+module _ {d m : ℕ} {keys sums : List ℤ} {list o : List ℕ} {a : ℕ} (r : RowsRoom d m keys sums list a (length o)) {j next : ℕ} {out : List ℕ}
+    (p : Written o a (linesIn d keys sums list j) next out) where
+  row-space : j < m → a + length (linesIn d keys sums list j) + length (lineAt d keys sums (getD list j 0)) ≤ length o
+  unfolding linesIn collect
+  row-space h = let g : ℕ → List ℕ = λ j. lineAt d keys sums (getD list j 0) in
+      omega (arith, r .space, collect-part g (suc j) m h, length-append (collect j g) (g j))
 
-pub rows-start : (c : Settings) (t : Table) (o : List ℕ) (a : ℕ) → Written o a (firstLines c t 0) a o
-unfolding collect
-rows-start c t o a = written-nothing o a
+  pub row-room : j < m → PointRoom d keys sums (getD list j 0) next (length out)
+  row-room h = record { lies-in = r .each j h; space = written-room (length (lineAt d keys sums (getD list j 0))) p (row-space h) }
 
-module _ {c : Settings} {t : Table} {list o : List ℕ} {a : ℕ} (r : RowsRoom c t list a (length o)) {j next : ℕ} {out : List ℕ}
-    (p : Written o a (firstLines c t j) next out) where
-  row-space : j < t .m → a + length (firstLines c t j) + length (pointLine c t (getD list j 0)) ≤ length o
-  unfolding collect pointLines
-  row-space h = rw (r .listing j h) (omega (arith, r .space, collect-part (lineAt c t) (suc j) (t .m) h, length-append (firstLines c t j) (lineAt c t j)))
+  pub row-more : {next′ : ℕ} {out′ : List ℕ} → j < m
+      → Written out next (lineAt d keys sums (getD list j 0)) next′ out′ → Written o a (linesIn d keys sums list (j + 1)) next′ out′
+  unfolding linesIn collect
+  row-more h q = rw add-one (written-then p q (row-space h))
 
-  pub row-room : j < t .m → PointRoom c t (getD list j 0) next (length out)
-  row-room h = record {
-    stored-in = record {
-      printable = r .printable;
-      stored = rw (r .listing j h) (all-at (λ i. i < t .m) (order c t) 0 (order-low c t) j (rw (order-length c t) h));
-    };
-    space = written-room (length (pointLine c t (getD list j 0))) p (row-space h);
-  }
-
-  pub row-more : {next′ : ℕ} {out′ : List ℕ} → j < t .m
-      → Written out next (pointLine c t (getD list j 0)) next′ out′ → Written o a (firstLines c t (j + 1)) next′ out′
-  unfolding collect
-  row-more h q = rw (add-one, ← r .listing j h) (written-then p q (row-space h))
-
-  pub rows-done : t .m ≤ j → j ≤ t .m → Written o a (pointLines c t) next out
-  unfolding pointLines
-  rows-done h k = let e : j ≡ t .m = omega arith in rw e at p
+  pub rows-done : m ≤ j → j ≤ m → Written o a (linesIn d keys sums list m) next out
+  rows-done h k = let e : j ≡ m = omega arith in rw e at p
 
 -- ---- the listing of a sound table
 module _ {c : Settings} {t : Table} (F : Fine c t) where
@@ -87,11 +78,22 @@ module _ {c : Settings} {t : Table} (F : Fine c t) where
       → after ++ rest ≡ order c t ++ (replicate (c .C - t .m) 0 ++ rest)
   in-front rest e l = ap (λ (x : List ℕ). x ++ rest) (list-is e l) ∙ append-assoc (order c t) (replicate (c .C - t .m) 0) rest
 
-pub listed-rows : {c : Settings} {t : Table} {a size : ℕ} {list after : List ℕ} {number : ℕ} (rest : List ℕ)
-    → PointsRoom c t a size → length list ≡ c .C → Lists c t list number after → RowsRoom c t (after ++ rest) a size
-listed-rows {c} {t} rest r e l = rw (in-front (r .printable .fine) rest e l) (record {
-  printable = r .printable;
-  listing = λ j h. List·getD-append (order c t) (replicate (c .C - t .m) 0 ++ rest) 0 j (rw (order-length c t) h);
-  long = omega (arith, order-length c t, length-append (order c t) (replicate (c .C - t .m) 0 ++ rest));
-  space = r .space;
-})
+module _ {c : Settings} {t : Table} {a size : ℕ} {list after : List ℕ} {number : ℕ} (rest : List ℕ)
+    (r : PointsRoom c t a size) (e : length list ≡ c .C) (l : Lists c t list number after) where
+  place-is : (j : ℕ) → j < t .m → getD (after ++ rest) j 0 ≡ getD (order c t) j 0
+  place-is j h = rw (in-front (r .printable .fine) rest e l) (List·getD-append (order c t) (replicate (c .C - t .m) 0 ++ rest) 0 j (rw (order-length c t) h))
+
+  -- the lines of the points that the array names then are those of the table, in listing order
+  listed-lines : linesIn (c .d) (t .keys) (t .sums) (after ++ rest) (t .m) ≡ pointLines c t
+  unfolding linesIn pointLines
+  listed-lines = collect-cong (t .m) (λ j. pointLine c t (getD (after ++ rest) j 0)) (λ j. pointLine c t (getD (order c t) j 0)) (λ j h. ap (pointLine c t) (place-is j h))
+
+  pub listed-written : {o out : List ℕ} {next : ℕ} → Written o a (linesIn (c .d) (t .keys) (t .sums) (after ++ rest) (t .m)) next out → Written o a (pointLines c t) next out
+  listed-written p = rw listed-lines at p
+
+  pub listed-rows : RowsRoom (c .d) (t .m) (t .keys) (t .sums) (after ++ rest) a size
+  listed-rows = record {
+    each = λ j h. lies-in (r .printable) (rw (place-is j h) (all-at (λ i. i < t .m) (order c t) 0 (order-low c t) j (rw (order-length c t) h)));
+    long = let n = ap length (in-front (r .printable .fine) rest e l) in omega (arith, n, order-length c t, length-append (order c t) (replicate (c .C - t .m) 0 ++ rest));
+    space = rw listed-lines (r .space);
+  }

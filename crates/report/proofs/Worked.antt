@@ -12,10 +12,10 @@ use Rattle.lattice.specs.Points.{corner, lastOf, points}
 use Rattle.index.specs.Keys.{same, keyAt, hash, home}
 use Rattle.index.specs.Search.{walk as sequence, search as sought}
 use Rattle.table.specs.Table.{whole}
-use Rattle.table.specs.Pour.{setPair, append, raise, pour, news}
+use Rattle.table.specs.Pour.{setPair, append, raise, pour, newsIn}
 use Rattle.table.specs.Reading.{shares, refusal}
 use Rattle.table.specs.Calls.{ranged, fits, fresh, freshRefusal}
-use Rattle.listing.specs.Order.{before, insert, ordered}
+use Rattle.listing.specs.Order.{precedes, insert, ordered}
 use Rattle.listing.specs.Listing.{order}
 use Rattle.blur.specs.Blur.{step, plusStep, minusStep, pass, passes, massAfter, valueAfter}
 use Rattle.filter.specs.Answer.{weighted, meets, codeBy, valueBy}
@@ -30,5 +30,5 @@ use Rattle.report.specs.Report.{pointLines, perQuery, settingsRefusal, r
 use Rattle.report.specs.Worked.{ReportCases}
 
 pub report-cases : ReportCases
-unfolding floor remainder rounded sum over all tab collect word first allNear sumsToZero best spread weight corner lastOf points same keyAt hash home sequence sought whole setPair append raise pour news shares refusal ranged fits fresh freshRefusal before insert ordered order step plusStep minusStep pass passes massAfter valueAfter weighted meets codeBy valueBy little signed numbersIn kindIn total formRefusal itemAt saidAt walk walkFrom loadWalk load digitsIn decimal spaced line pointLines perQuery settingsRefusal report
+unfolding floor remainder rounded sum over all tab collect word first allNear sumsToZero best spread weight corner lastOf points same keyAt hash home sequence sought whole setPair append raise pour newsIn shares refusal ranged fits fresh freshRefusal precedes insert ordered order step plusStep minusStep pass passes massAfter valueAfter weighted meets codeBy valueBy little signed numbersIn kindIn total formRefusal itemAt saidAt walk walkFrom loadWalk load digitsIn decimal spaced line pointLines perQuery settingsRefusal report
 report-cases = record { five-lines = refl; queries-first = refl; cut-short = refl; too-wide = refl }

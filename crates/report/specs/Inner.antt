@@ -1,18 +1,20 @@
 -- What the functions of the report ask of one another and leave.
 use mathlib.Core.Path.{_≡_}
-use mathlib.Core.List.{List, [], _++_}
-use Prim.Native.Nat.{ℕ, _+_, _-_, _≤_, _<_}
+use mathlib.Core.List.{List, [], _∷_, _++_}
+use Prim.Native.Nat.{ℕ, _+_, _*_, _-_, _≤_, _<_}
 use lib.IntN.{ℤ, pos}
 use lib.ListN.{length, getD, replicate}
+use Rattle.whole.specs.Lists.{at, collect}
 use Rattle.lattice.specs.Limits.{most-d, most-readings}
+use Rattle.index.specs.Keys.{keyAt}
 use Rattle.table.specs.declared.Head.{Head}
-use Rattle.table.specs.Table.{Settings, Table}
+use Rattle.table.specs.Table.{Settings, Table, whole}
 use Rattle.table.specs.Heads.{settings, table}
 use Rattle.table.specs.Sound.{Ranged, Fine}
 use Rattle.blur.specs.Blur.{masses, values}
 use Rattle.filter.specs.Answer.{codeBy, valueBy}
 use Rattle.filter.specs.Inner.{Smooth}
-use Rattle.listing.specs.Listing.{order}
+use Rattle.text.specs.Text.{line}
 use Rattle.reader.specs.Items.{settingsOf, itemAt}
 use Rattle.reader.specs.Content.{saidAt}
 use Rattle.reader.specs.Walk.{items}
@@ -20,11 +22,11 @@ use Rattle.log.specs.Loading.{load}
 use Rattle.reader.specs.declared.items.Item.{Item}
 use Rattle.reader.specs.declared.items.Item.the-variants.{Of, End, Refused}
 use Rattle.report.specs.declared.opening.Opening.{Opening}
-use Rattle.report.specs.Report.{most-bytes, most-log-capacity, room, headLine, pointNumbers, pointLine, pointLines, answerLine, answerLines, queryText, perQuery, tableText, settingsRefusal, refusedLine, loadedText}
+use Rattle.report.specs.Report.{most-bytes, most-log-capacity, room, point-word, headLine, pointLines, answerLine, answerLines, queryText, perQuery, tableText, settingsRefusal, refusedLine, loadedText}
 
 -- as many numbers as a line has at most: six coordinates, a mass and a value sum
-abbrev pub most-numbers : ℕ
-most-numbers = 8
+abbrev pub most-in-line : ℕ
+most-in-line = 8
 
 -- the line of a head
 abbrev pub countsLine : Head → List ℕ
@@ -47,28 +49,41 @@ pub record Printable (c : Settings) (t : Table) : Type 0 where
   pub fine : Fine c t
   pub few : c .C ≤ most-log-capacity
 
--- the numbers of a point's line in an array, with 0 in the rest
-abbrev pub padded : Settings → Table → ℕ → List ℤ
-padded c t i = pointNumbers c t i ++ replicate (most-numbers - (c .d + 3)) (pos 0)
+-- the numbers of the line of point i, by the lent keys and sums
+abbrev pub numbersAt : ℕ → List ℤ → List ℤ → ℕ → List ℤ
+numbersAt d keys sums i = whole (keyAt d keys i) ++ (at sums (2 * i) ∷ at sums (2 * i + 1) ∷ [])
 
--- a stored point of such a table
-pub record StoredIn (c : Settings) (t : Table) (i : ℕ) : Type 0 where
-  pub printable : Printable c t
-  pub stored : i < t .m
+-- the numbers of the line of point i in an array, with 0 in the rest
+abbrev pub lineNumbers : ℕ → List ℤ → List ℤ → ℕ → List ℤ
+lineNumbers d keys sums i = numbersAt d keys sums i ++ replicate (most-in-line - (d + 3)) (pos 0)
 
--- and room for its line from a place on
-pub record PointRoom (c : Settings) (t : Table) (i at size : ℕ) : Type 0 where
-  pub stored-in : StoredIn c t i
-  pub space : at + length (pointLine c t i) ≤ size
+-- lent keys and sums that have the stretch and the pair of point i
+pub record LiesIn (d : ℕ) (keys sums : List ℤ) (i : ℕ) : Type 0 where
+  pub d-most : d ≤ most-d
+  pub few : i ≤ most-log-capacity
+  pub stretch : d * i + d ≤ length keys
+  pub pair : 2 * i + 1 < length sums
 
--- the listing of such a table, in an array that it fills from the start, and room for its lines
-pub record RowsRoom (c : Settings) (t : Table) (list : List ℕ) (at size : ℕ) : Type 0 where
-  pub printable : Printable c t
-  pub listing : (j : ℕ) → j < t .m → getD list j 0 ≡ getD (order c t) j 0
-  pub long : t .m ≤ length list
-  pub space : at + length (pointLines c t) ≤ size
+-- the line of point i, by the lent keys and sums
+abbrev pub lineAt : ℕ → List ℤ → List ℤ → ℕ → List ℕ
+lineAt d keys sums i = line point-word (numbersAt d keys sums i)
 
--- such a table, and room for the lines of its points
+-- the lines of the m points that an array names from its start on
+unfoldable pub linesIn : ℕ → List ℤ → List ℤ → List ℕ → ℕ → List ℕ
+linesIn d keys sums list m = collect m (λ j. lineAt d keys sums (getD list j 0))
+
+-- a point of lent keys and sums, and room for its line from a place on
+pub record PointRoom (d : ℕ) (keys sums : List ℤ) (i at size : ℕ) : Type 0 where
+  pub lies-in : LiesIn d keys sums i
+  pub space : at + length (lineAt d keys sums i) ≤ size
+
+-- points of lent keys and sums that an array names from its start on, m of them, and room for their lines
+pub record RowsRoom (d m : ℕ) (keys sums : List ℤ) (list : List ℕ) (at size : ℕ) : Type 0 where
+  pub each : (j : ℕ) → j < m → LiesIn d keys sums (getD list j 0)
+  pub long : m ≤ length list
+  pub space : at + length (linesIn d keys sums list m) ≤ size
+
+-- a table that the program has memory for, and room for the lines of its points
 pub record PointsRoom (c : Settings) (t : Table) (at size : ℕ) : Type 0 where
   pub printable : Printable c t
   pub space : at + length (pointLines c t) ≤ size
@@ -90,7 +105,7 @@ pub record ReplyRoom (c : Settings) (t : Table) (l : List ℕ) (a : ℕ) (i : It
   pub item-is : i ≡ itemAt l a
   pub space : at + length (replyText c t l a i) ≤ size
 
--- such a sheet, and room for the lines of all queries
+-- a sheet for the settings of the log, and room for the lines of all queries
 pub record RepliesRoom (c : Settings) (t : Table) (l : List ℕ) (at size : ℕ) : Type 0 where
   pub smooth : Smooth c t
   pub settings-are : c ≡ settingsOf l
@@ -122,7 +137,7 @@ pub record Taken (l : List ℕ) : Type 0 where
   pub ranged : Ranged (settingsOf l)
   pub few : settingsOf l .C ≤ most-log-capacity
 
--- such a log, and room for what is printed where it is loaded into the memory of t
+-- a log that the program takes, and room for what is printed where it is loaded into the memory of t
 pub record LentFor (l : List ℕ) (t : Table) (size : ℕ) : Type 0 where
   pub taken : Taken l
   pub space : length (loadedText l (load l t .number) (load l t)) ≤ size

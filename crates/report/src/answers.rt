@@ -1,6 +1,6 @@
 // The lines of a log's queries, in their order, answered over all of its readings.
 ghost use lib.ListN.{length};
-ghost use Rattle.table.specs.Heads.{settings, table};
+ghost use Rattle.table.specs.Heads.{settings, table, tableIn};
 ghost use Rattle.reader.specs.Walk.{items};
 ghost use Rattle.text.specs.Text.{Written};
 ghost use Rattle.report.specs.Report.{answerLines, perQuery};
@@ -31,7 +31,7 @@ fn put_reply(
 ) -> usize
     requires { ⌜ ReplyRoom (settings head) (table head (now keys) (now sheet) (now index)) (now log) offset item at (length (now out)) ⌝ }
     ensures { λ r. ⌜
-        (let t = table head (now (keys .entry)) (now (sheet .entry)) (now (index .entry)) in
+        (let t = tableIn head keys sheet index in
         Written (now (out .entry)) at (replyText (settings head) t (now (log .entry)) offset item) r (now (out .exit)))
         ⌝ }
 {
@@ -62,7 +62,7 @@ fn put_replies(
     requires { ⌜ RepliesRoom (settings head) (table head (now keys) (now sheet) (now index)) (now log) at (length (now out)) ⌝ }
     ensures { λ r. ⌜
         (let c = settings head in
-        let t = table head (now (keys .entry)) (now (sheet .entry)) (now (index .entry)) in
+        let t = tableIn head keys sheet index in
         Written (now (out .entry)) at (perQuery (replyLine c t) (items (now (log .entry)))) r (now (out .exit)))
         ⌝ }
 {
@@ -93,7 +93,7 @@ pub fn put_answers(
 ) -> usize
     requires { ⌜ AnswersRoom (settings head) (table head (now keys) (now sums) (now index)) (now log) at (length (now out)) ⌝ }
     ensures { λ r. ⌜
-        (let t = table head (now (keys .entry)) (now (sums .entry)) (now (index .entry)) in
+        (let t = tableIn head keys sums index in
         Written (now (out .entry)) at (answerLines (settings head) t (items (now (log .entry)))) r (now (out .exit)))
         ⌝ }
 {

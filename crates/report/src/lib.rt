@@ -2,7 +2,7 @@
 // specs/; that a buffer of ROOM bytes suffices for every log, in proofs/.
 ghost use lib.ListN.{length};
 ghost use Rattle.table.specs.Calls.{lent};
-ghost use Rattle.table.specs.Heads.{settings, table};
+ghost use Rattle.table.specs.Heads.{lentIn, settings, table, tableIn};
 ghost use Rattle.text.specs.Text.{Written};
 ghost use Rattle.log.specs.Loading.{load};
 ghost use Rattle.report.specs.Report.{Reports, tableText, loadedText, settledText};
@@ -42,7 +42,7 @@ fn put_table(
 ) -> usize
     requires { ⌜ TableRoom (settings head) (table head (now keys) (now sums) (now index)) (now log) (length (now out)) ⌝ }
     ensures { λ r. ⌜
-        (let t = table head (now (keys .entry)) (now (sums .entry)) (now (index .entry)) in
+        (let t = tableIn head keys sums index in
         Written (now (out .entry)) 0 (tableText (settings head) t (now (log .entry))) r (now (out .exit)))
         ⌝ }
 {
@@ -62,7 +62,7 @@ fn put_loaded(
 ) -> usize
     requires { ⌜ LentFor (now log) (lent (now keys) (now sums) (now index)) (length (now out)) ⌝ }
     ensures { λ r. ⌜
-        (let o = load (now (log .entry)) (lent (now (keys .entry)) (now (sums .entry)) (now (index .entry))) in
+        (let o = load (now (log .entry)) (lentIn keys sums index) in
         Written (now (out .entry)) 0 (loadedText (now (log .entry)) (o .number) o) r (now (out .exit)))
         ⌝ }
 {

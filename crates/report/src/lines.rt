@@ -2,12 +2,14 @@
 ghost use mathlib.Core.Path.{_≡_};
 ghost use Prim.Native.Nat.{_+_, _≤_};
 ghost use lib.ListN.{length};
-ghost use Rattle.table.specs.Heads.{settings, table};
 ghost use Rattle.text.specs.Text.{Written};
-ghost use Rattle.report.specs.Report.{pointLine, answerLine, refusedLine};
-ghost use Rattle.report.specs.Inner.{countsLine, HeadRoom, RefusedRoom, StoredIn, PointRoom, padded};
+ghost use Rattle.report.specs.Report.{answerLine, refusedLine};
+ghost use Rattle.report.specs.Inner.{countsLine, HeadRoom, RefusedRoom, LiesIn, PointRoom, lineNumbers, lineAt};
 use table::Head;
 use text::put_line;
+
+// As many numbers as a line has at most: six coordinates, a mass and a value sum.
+const MOST_IN_LINE: usize = 8;
 
 // HEAD: d, S, readings, points.
 pub fn put_head(out: &mut [u8], head: Head) -> usize
@@ -25,13 +27,13 @@ pub fn put_head(out: &mut [u8], head: Head) -> usize
 
 // A point's d + 1 coordinates, the last of them minus the sum of those kept, its mass and its value
 // sum; then 0.
-fn point_numbers(head: Head, keys: &[i32], sums: &[i64], index: &[u16], i: usize) -> [i64; 8]
-    requires { ⌜ StoredIn (settings head) (table head (now keys) (now sums) (now index)) i ⌝ }
-    ensures { λ r. ⌜ r ≡ padded (settings head) (table head (now (keys .entry)) (now (sums .entry)) (now (index .entry))) i ⌝ }
+fn point_numbers(head: Head, keys: &[i32], sums: &[i64], i: usize) -> [i64; MOST_IN_LINE]
+    requires { ⌜ LiesIn (head .d) (now keys) (now sums) i ⌝ }
+    ensures { λ r. ⌜ r ≡ lineNumbers (head .d) (now (keys .entry)) (now (sums .entry)) i ⌝ }
 {
     let d = head.d;
     let start = d * i;
-    let mut numbers = [0i64; 8];
+    let mut numbers = [0i64; MOST_IN_LINE];
     let mut total: i64 = 0;
     for j in 0..d {
         let kept = keys[start + j] as i64;
@@ -45,22 +47,18 @@ fn point_numbers(head: Head, keys: &[i32], sums: &[i64], index: &[u16], i: usize
 }
 
 // POINT: all d + 1 coordinates, mass, value sum.
-pub fn put_point(
+pub fn put_point_line(
     out: &mut [u8],
     at: usize,
     head: Head,
     keys: &[i32],
     sums: &[i64],
-    index: &[u16],
     i: usize,
 ) -> usize
-    requires { ⌜ PointRoom (settings head) (table head (now keys) (now sums) (now index)) i at (length (now out)) ⌝ }
-    ensures { λ r. ⌜
-        (let t = table head (now (keys .entry)) (now (sums .entry)) (now (index .entry)) in
-        Written (now (out .entry)) at (pointLine (settings head) t i) r (now (out .exit)))
-        ⌝ }
+    requires { ⌜ PointRoom (head .d) (now keys) (now sums) i at (length (now out)) ⌝ }
+    ensures { λ r. ⌜ Written (now (out .entry)) at (lineAt (head .d) (now (keys .entry)) (now (sums .entry)) i) r (now (out .exit)) ⌝ }
 {
-    let numbers = point_numbers(head, keys, sums, index, i);
+    let numbers = point_numbers(head, keys, sums, i);
     let count = head.d + 3;
     put_line(out, at, b"POINT", &numbers[0..count])
 }

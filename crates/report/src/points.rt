@@ -1,33 +1,33 @@
 // The lines of a table's points, in listing order.
 ghost use lib.ListN.{length};
-ghost use Rattle.table.specs.Heads.{settings, table};
+ghost use Rattle.table.specs.Heads.{settings, table, tableIn};
 ghost use Rattle.text.specs.Text.{Written};
 ghost use Rattle.report.specs.Report.{pointLines};
-ghost use Rattle.report.specs.Inner.{RowsRoom, PointsRoom};
+ghost use Rattle.report.specs.Inner.{linesIn, RowsRoom, PointsRoom};
 use crate::MOST_LOG_CAPACITY;
-use crate::lines::put_point;
+use crate::lines::put_point_line;
 use listing::list;
 use table::Head;
 
+// The lines of the points that the array names, from its start on.
 fn put_rows(
     out: &mut [u8],
     at: usize,
     head: Head,
     keys: &[i32],
     sums: &[i64],
-    index: &[u16],
     order: &[u16],
 ) -> usize
-    requires { ⌜ RowsRoom (settings head) (table head (now keys) (now sums) (now index)) (now order) at (length (now out)) ⌝ }
+    requires { ⌜ RowsRoom (head .d) (head .points) (now keys) (now sums) (now order) at (length (now out)) ⌝ }
     ensures { λ r. ⌜
-        (let t = table head (now (keys .entry)) (now (sums .entry)) (now (index .entry)) in
-        Written (now (out .entry)) at (pointLines (settings head) t) r (now (out .exit)))
+        (let lines = linesIn (head .d) (now (keys .entry)) (now (sums .entry)) (now (order .entry)) (head .points) in
+        Written (now (out .entry)) at lines r (now (out .exit)))
         ⌝ }
 {
     let mut next = at;
     for j in 0..head.points {
         let i = order[j] as usize;
-        next = put_point(out, next, head, keys, sums, index, i);
+        next = put_point_line(out, next, head, keys, sums, i);
     }
     next
 }
@@ -43,12 +43,12 @@ pub fn put_points(
 ) -> usize
     requires { ⌜ PointsRoom (settings head) (table head (now keys) (now sums) (now index)) at (length (now out)) ⌝ }
     ensures { λ r. ⌜
-        (let t = table head (now (keys .entry)) (now (sums .entry)) (now (index .entry)) in
+        (let t = tableIn head keys sums index in
         Written (now (out .entry)) at (pointLines (settings head) t) r (now (out .exit)))
         ⌝ }
 {
     let mut order = [0u16; MOST_LOG_CAPACITY];
     let places = head.capacity;
     list(head, keys, sums, index, &mut order[0..places]);
-    put_rows(out, at, head, keys, sums, index, &order)
+    put_rows(out, at, head, keys, sums, &order)
 }

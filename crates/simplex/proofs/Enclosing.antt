@@ -14,8 +14,8 @@ use Rattle.whole.proofs.Sum.{sum-cong}
 use Rattle.whole.proofs.Lists.{length-tab}
 use Rattle.lattice.specs.Weight.{W}
 use Rattle.lattice.specs.Points.{spanned, lastOf}
-use Rattle.simplex.specs.Slots.{Placed, slotWeights, slotCoords}
-use Rattle.simplex.specs.Inner.{Total, Parts, coordinate, Near, SplitsOf, CornerIs, Room}
+use Rattle.simplex.specs.Slots.{Placed}
+use Rattle.simplex.specs.Inner.{Total, Parts, coordinate, Near, SplitsOf, CornerIs, Room, weightsBy, coordsBy}
 use Rattle.simplex.proofs.Splits.{part-of, join-split}
 use Rattle.simplex.proofs.Peak.{peak-cong}
 use Rattle.simplex.proofs.Padding.{padded-cong}
@@ -72,18 +72,18 @@ module _ (d S : ℕ) (x : List ℤ) (Q : Placed d S x) where
     corner-is j q C = rw (← (add-one d)) (corner-cong ((d + 1) * S) (d + 1) (coordinate ((d + 1) * S) floors rests) (at x) j own q C)
 
 -- ---- the slots before the first corner
-pub no-weights : (d S : ℕ) (x : List ℤ) → replicate 6 0 ≡ slotWeights d S x 0
-unfolding slotWeights tab lastOf
+pub no-weights : (d S : ℕ) (x : List ℤ) → replicate 6 0 ≡ weightsBy d S x 0
+unfolding weightsBy tab lastOf
 no-weights d S x = refl
 
-pub no-coords : (d S : ℕ) (x : List ℤ) → replicate 36 (pos 0) ≡ slotCoords d S x 0
-unfolding slotCoords tab lastOf
+pub no-coords : (d S : ℕ) (x : List ℤ) → replicate 36 (pos 0) ≡ coordsBy d S x 0
+unfolding coordsBy tab lastOf
 no-coords d S x = refl
 
 -- ---- a turn
 pub room-of : (d S : ℕ) (x : List ℤ) (j : ℕ) → 0 < S → d ≤ 5 → j < suc d → {point : List ℤ} {slot weight : ℕ} → CornerIs (W d S) (suc d) (at x) j point slot weight
-    → {coords : List ℤ} → coords ≡ slotCoords d S x j → Room coords slot
-unfolding slotCoords
+    → {coords : List ℤ} → coords ≡ coordsBy d S x j → Room coords slot
+unfolding coordsBy
 room-of d S x j p h q C e = record {
   slots = rw e (length-tab 36 _);
   slot-in = place-in d S x j p q C h;

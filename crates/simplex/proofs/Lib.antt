@@ -3,6 +3,7 @@ pub mod CornerWeight
 pub mod Splits
 pub mod Padding
 pub mod Steps
+pub mod Leaving
 pub mod Slots
 pub mod Enclosing
 pub mod Placing

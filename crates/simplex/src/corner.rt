@@ -6,8 +6,10 @@ ghost use lib.Dec.{ltb};
 ghost use lib.IntN.{pos, _-ℤ_, _*ℤ_};
 ghost use lib.ListN.{length};
 ghost use Rattle.whole.specs.Lists.{at};
+ghost use Rattle.lattice.specs.Limits.{most-coords};
 ghost use Rattle.simplex.specs.Inner.{Parts, coordinate, StepsFrom, Span, CornerFrom};
 use crate::split::difference;
+use lattice::limits::MOST_COORDS;
 
 // The sum of the floors of the differences from one place, and the greatest of the remainders.
 struct Steps {
@@ -31,10 +33,17 @@ fn larger(a: u32, b: u32) -> u32
 
 // One difference a turn: place i from place j. The floors are left in z, where the point is made from
 // them: an array handed back would be copied.
-fn steps_from(floors: &[i32], rests: &[i32], n: usize, w: u32, j: usize, z: &mut [i32; 6]) -> Steps
+fn steps_from(
+    floors: &[i32],
+    rests: &[i32],
+    n: usize,
+    w: u32,
+    j: usize,
+    z: &mut [i32; MOST_COORDS],
+) -> Steps
     requires { ⌜ Parts w n (now floors) (now rests) ⌝ }
     requires { ⌜ j < n ⌝ }
-    requires { ⌜ length (now z) ≡ 6 ⌝ }
+    requires { ⌜ length (now z) ≡ most-coords ⌝ }
     ensures { λ r. ⌜
         (let x = coordinate w (now (floors .entry)) (now (rests .entry)) in
         StepsFrom w n x j (now (z .exit)) (r .total) (pos (r .spread)))
@@ -60,11 +69,11 @@ pub fn corner_of(
     n: usize,
     w: u32,
     j: usize,
-    z: &mut [i32; 6],
+    z: &mut [i32; MOST_COORDS],
 ) -> Corner
     requires { ⌜ Parts w n (now floors) (now rests) ⌝ }
     requires { ⌜ j < n ⌝ }
-    requires { ⌜ length (now z) ≡ 6 ⌝ }
+    requires { ⌜ length (now z) ≡ most-coords ⌝ }
     ensures { λ r. ⌜
         (let x = coordinate w (now (floors .entry)) (now (rests .entry)) in
         CornerFrom w n x j (now (z .exit)) (r .total) (r .slot) (r .weight))

@@ -4,6 +4,7 @@ ghost use lib.ListN.{length};
 ghost use Rattle.whole.specs.Size.{Abs≤};
 ghost use Rattle.lattice.specs.Limits.{farthest};
 ghost use Rattle.simplex.specs.Inner.{Total, SplitOf, joined, Part, Between, coordinate, Near, Six, SplitsOf};
+use lattice::limits::MOST_COORDS;
 
 // x = w * floor + rest, with rest from 0 to w - 1.
 pub struct Split {
@@ -26,7 +27,12 @@ fn split_of(x: i32, w: u32) -> Split
 
 // The splits of up to six coordinates, in their order. They are written where the corners read them:
 // arrays handed back would be copied.
-pub fn put_splits(x: &[i32], w: u32, floors: &mut [i32; 6], rests: &mut [i32; 6])
+pub fn put_splits(
+    x: &[i32],
+    w: u32,
+    floors: &mut [i32; MOST_COORDS],
+    rests: &mut [i32; MOST_COORDS],
+)
     requires { ⌜ Near w (now x) (length (now x)) ⌝ }
     requires { ⌜ Six (now floors) (now rests) ⌝ }
     ensures { λ r. ⌜ SplitsOf w (length (now (x .entry))) (now (x .entry)) (now (floors .exit)) (now (rests .exit)) ⌝ }

@@ -1,7 +1,7 @@
 -- The entries of an index, one place at a time: how many name a point, and whether one is too high.
 use mathlib.Core.Path.{_≡_, refl}
 use mathlib.Core.Bool.{Bool, true, false, not, cond}
-use Prim.Native.Nat.{ℕ, _+_, _*_, _<_, _≤_}
+use Prim.Native.Nat.{ℕ, _+_, _<_, _≤_}
 use native.Mathlib.Numerals.{add-one}
 use native.Mathlib.Omega.{arith}
 use lib.Dec.{eqb, leb}
@@ -27,11 +27,11 @@ unfolding count
 count-next entry p e f = rw (add-one, e, f) refl
 
 -- an entry that is too high
-pub sparse-stop : (C m : ℕ) (entry : ℕ → ℕ) (p : ℕ) → p < 2 * C → m < entry p → sparse C m entry ≡ false
+pub sparse-stop : (places m : ℕ) (entry : ℕ → ℕ) (p : ℕ) → p < places → m < entry p → sparse places m entry ≡ false
 unfolding sparse
-sparse-stop C m entry p l h = rw (all-stop (2 * C) (λ p. leb (entry p) m) p l (lt-leb (entry p) m h)) refl
+sparse-stop places m entry p l h = rw (all-stop places (λ p. leb (entry p) m) p l (lt-leb (entry p) m h)) refl
 
 -- the end
-pub sparse-done : {named : ℕ} (C m : ℕ) (entry : ℕ → ℕ) (p : ℕ) → p ≡ 2 * C → all p (λ p. leb (entry p) m) ≡ true → named ≡ count p (used entry) → eqb named m ≡ sparse C m entry
+pub sparse-done : {named : ℕ} (places m : ℕ) (entry : ℕ → ℕ) (p : ℕ) → p ≡ places → all p (λ p. leb (entry p) m) ≡ true → named ≡ count p (used entry) → eqb named m ≡ sparse places m entry
 unfolding sparse
-sparse-done C m entry p q a e = rw (← q, a, e) refl
+sparse-done places m entry p q a e = rw (← q, a, e) refl

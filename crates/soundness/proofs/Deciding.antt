@@ -4,19 +4,27 @@ use mathlib.Core.Bool.{Bool, true, false}
 use Prim.Native.Nat.{ℕ, _*_, _<_, _≤_}
 use native.Mathlib.Nat.{mul-le-mul, le-refl}
 use native.Mathlib.Omega.{arith}
+use lib.ListN.{length}
 use borrow.Author.Tests.{le-leb, lt-leb}
 use Rattle.lattice.specs.Limits.{most-readings}
 use Rattle.lattice.specs.Refusals.{first, settings-out-of-range, other-length, not-sound}
 use Rattle.lattice.specs.Weight.{W}
 use Rattle.index.specs.Indexed.{sparse, finding}
+use Rattle.index.proofs.Finding.{to-sparse}
 use Rattle.table.specs.Table.{Settings, Table, key, entry}
 use Rattle.table.specs.Sound.{sound, indexed, Ranged, Shape}
 use Rattle.table.specs.Calls.{ranged, fits, callRefusal}
-use Rattle.soundness.specs.Inner.{goodRows, Rows}
+use Rattle.table.proofs.Refusals.{T-of}
+use Rattle.table.proofs.Soundness.{table-searched}
+use Rattle.soundness.specs.Inner.{goodRows, Findable, Rows}
 
 module _ (c : Settings) (t : Table) where
   abbrev pub thin : Bool
-  thin = sparse (c .C) (t .m) (entry t)
+  thin = sparse (2 * c .C) (t .m) (entry t)
+
+  -- as the lent index has its places
+  pub of-places : {r : Bool} → Shape c t → r ≡ sparse (length (t .index)) (t .m) (entry t) → r ≡ thin
+  of-places H e = e ∙ ap (λ (n : ℕ). sparse n (t .m) (entry t)) (H .index)
 
   abbrev pub found : Bool
   found = finding (c .C) (t .m) (key c t) (entry t)
@@ -29,6 +37,13 @@ module _ (c : Settings) (t : Table) where
     few = omega (arith, R .C-most, m);
     stretches = omega (arith, H .keys, mul-le-mul (le-refl (c .d)) m);
     pairs = omega (arith, H .sums, m);
+  }
+
+  pub findable : Ranged c → Shape c t → t .m ≤ c .C → thin ≡ true → Findable (c .d) (c .C) (t .m) (t .keys) (t .index)
+  findable R H m e = record {
+    searchable = table-searched c t R H (to-sparse (c .C) (t .m) (entry t) m (T-of e));
+    few = rows-of R H m .few;
+    stretches = rows-of R H m .stretches;
   }
 
   pub too-many-points : c .C < t .m → false ≡ sound c t

@@ -2,7 +2,8 @@
 use mathlib.Core.Path.{_≡_, refl, ap, sym, subst, _∙_}
 use mathlib.Core.Bool.{Bool, true, false, _&&_}
 use mathlib.Core.List.{List}
-use Prim.Native.Nat.{ℕ, _+_, _*_, _<_, _^_}
+use Prim.Native.Nat.{ℕ, _+_, _*_, _≤_, _<_, _^_}
+use native.Mathlib.Nat.{mul-le-mul-left}
 use native.Mathlib.Omega.{arith}
 use lib.Dec.{T, eqb, eqb→eq}
 use lib.IntN.{ℤ, pos, negℤ, _*ℤ_}
@@ -19,9 +20,9 @@ use Rattle.whole.proofs.Tests.{and-l, and-r, and-i, all-at, all-of, T-true, T-f
 use Rattle.lattice.specs.Limits.{most-value}
 use Rattle.index.specs.Keys.{eqZ, keyAt}
 use Rattle.index.proofs.Equality.{eq-eqb, eqZ-eq, eqZ-refl, keyAt-length}
-use Rattle.table.specs.Sound.{good, goodKey, goodPair, within}
+use Rattle.table.specs.Sound.{good, goodKey, goodPair, withinPlusMinus}
 use Rattle.table.proofs.Soundness.{sum-one}
-use Rattle.soundness.specs.Inner.{lightPair, rowAt, lightRow, goodRows}
+use Rattle.soundness.specs.Inner.{lightPair, Rows, rowAt, lightRow, goodRows}
 
 -- ---- one pair
 le-true : {a b : ℤ} → a ≤ℤ b → leZ a b ≡ true
@@ -59,6 +60,15 @@ pub key-of : {r : Bool} {k : List ℤ} (d : ℕ) (keys : List ℤ) (i : ℕ) →
 key-of {r} {k} d keys i e f = f ∙ ap (λ (n : ℕ). goodKey n k) (ap length e ∙ keyAt-length d keys i) ∙ ap (goodKey d) e
 
 -- ---- all of them
+pub rows-fewer : {d m n : ℕ} {keys sums : List ℤ} → Rows d m keys sums → n ≤ m → Rows d n keys sums
+rows-fewer {d} R h = record {
+  d-least = R .d-least;
+  d-most = R .d-most;
+  few = omega (arith, R .few);
+  stretches = omega (arith, R .stretches, mul-le-mul-left d h);
+  pairs = omega (arith, R .pairs);
+}
+
 module _ (total d : ℕ) (keys sums : List ℤ) where
   abbrev massAt : ℕ → ℤ
   massAt i = at sums (2 * i)
@@ -98,7 +108,7 @@ module _ (total d : ℕ) (keys sums : List ℤ) where
   unfolding goodPair
   good-some i t =
       let k = goodKey d (keyAt d keys i) in
-      let w = within (pos most-value *ℤ massAt i) (valueAt i) in
+      let w = withinPlusMinus (pos most-value *ℤ massAt i) (valueAt i) in
       record { le = and-l (leZ (pos 1) (massAt i)) w (and-r k (leZ (pos 1) (massAt i) && w) t) }
 
   good-light : (i : ℕ) → T (good d (rowAt d keys sums i)) → massAt i ≤ℤ pos total → T (light i)

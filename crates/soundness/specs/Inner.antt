@@ -1,5 +1,4 @@
 -- What the functions behind `is_sound` compute and ask of one another. No contract that another crate sees cites this file.
-use mathlib.Core.Path.{_≡_}
 use mathlib.Core.Bool.{Bool, not, cond, _&&_}
 use mathlib.Core.List.{List}
 use Prim.Native.Nat.{ℕ, suc, _+_, _*_, _≤_}
@@ -12,8 +11,7 @@ use Rattle.whole.specs.Sum.{sum, all}
 use Rattle.whole.specs.Lists.{at}
 use Rattle.lattice.specs.Limits.{farthest-point, most-d, most-C}
 use Rattle.index.specs.Keys.{eqZ, keyAt}
-use Rattle.index.specs.Search.{entryAt, search}
-use Rattle.index.specs.Indexed.{Sparse}
+use Rattle.index.specs.Search.{entryAt, search, Searchable}
 use Rattle.table.specs.Table.{Row}
 use Rattle.table.specs.Sound.{good, goodKey, goodPair}
 
@@ -21,14 +19,11 @@ use Rattle.table.specs.Sound.{good, goodKey, goodPair}
 abbrev pub tally : ℕ → ℕ
 tally e = cond (not (eqb e 0)) 1 0
 
--- Lent keys and index in which each of the points can be sought: every entry names a stretch of the keys, and some are empty.
+-- Lent keys of m points, or of more, and an index in which keys can be sought.
 pub record Findable (d C m : ℕ) (keys : List ℤ) (index : List ℕ) : Type 0 where
-  pub d-most : d ≤ most-d
-  pub C-least : 1 ≤ C
-  pub C-most : C ≤ most-C
-  pub stretches : length keys ≡ d * C
-  pub places : length index ≡ 2 * C
-  pub sparse : Sparse C m (entryAt index)
+  pub searchable : Searchable d C keys index
+  pub few : m ≤ most-C
+  pub stretches : d * m ≤ length keys
 
 -- the index place at which the search for the key of point i ends, and whether it names point i
 abbrev pub placeOf : ℕ → ℕ → List ℤ → List ℕ → ℕ → ℕ
@@ -45,7 +40,7 @@ goodCoordinate n k c = leb (natAbs c) farthest-point && eqb (remainder c n) k
 unfoldable pub lightPair : ℕ → ℤ → ℤ → Bool
 lightPair total m v = goodPair m v && leZ m (pos total)
 
--- Lent keys and sums of m points.
+-- Lent keys and sums of m points, or of more.
 pub record Rows (d m : ℕ) (keys sums : List ℤ) : Type 0 where
   pub d-least : 1 ≤ d
   pub d-most : d ≤ most-d

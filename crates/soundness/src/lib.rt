@@ -3,7 +3,7 @@
 ghost use mathlib.Core.Path.{_≡_};
 ghost use Rattle.table.specs.Sound.{sound, Ranged, Shape};
 ghost use Rattle.table.specs.Calls.{callRefusal};
-ghost use Rattle.table.specs.Heads.{settings, table};
+ghost use Rattle.table.specs.Heads.{settings, table, tableIn};
 
 mod places;
 mod points;
@@ -26,7 +26,7 @@ pub fn is_sound(head: table::Head, keys: &[i32], sums: &[i64], index: &[u16]) ->
     requires { ⌜ Ranged (settings head) ⌝ }
     requires { ⌜ Shape (settings head) (table head (now keys) (now sums) (now index)) ⌝ }
     ensures { λ r. ⌜
-        (let t = table head (now (keys .entry)) (now (sums .entry)) (now (index .entry)) in
+        (let t = tableIn head keys sums index in
         r ≡ sound (settings head) t)
         ⌝ }
 {
@@ -40,7 +40,7 @@ pub fn is_sound(head: table::Head, keys: &[i32], sums: &[i64], index: &[u16]) ->
     if MOST_READINGS < readings {
         return false;
     }
-    if !index_is_sparse(index, capacity, points) {
+    if !index_is_sparse(index, points) {
         return false;
     }
     if !finds_all(keys, index, d, capacity, points) {
@@ -54,7 +54,7 @@ pub fn is_sound(head: table::Head, keys: &[i32], sums: &[i64], index: &[u16]) ->
 // the table, `more` says whether that has its length too.
 pub fn refusal_of(head: table::Head, keys: &[i32], sums: &[i64], index: &[u16], more: bool) -> u8
     ensures { λ r. ⌜
-        (let t = table head (now (keys .entry)) (now (sums .entry)) (now (index .entry)) in
+        (let t = tableIn head keys sums index in
         r ≡ callRefusal (settings head) t more)
         ⌝ }
 {

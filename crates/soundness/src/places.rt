@@ -1,7 +1,7 @@
 // The index of a table: its entries, and whether searching for each of the keys finds that same
 // point.
 ghost use mathlib.Core.Path.{_≡_};
-ghost use Prim.Native.Nat.{_*_, _<_};
+ghost use Prim.Native.Nat.{suc};
 ghost use lib.ListN.{length};
 ghost use Rattle.index.specs.Keys.{keyAt};
 ghost use Rattle.index.specs.Search.{entryAt};
@@ -19,9 +19,8 @@ fn tally_of(entry: u16) -> usize
 }
 
 // Every entry is 0 to the number of points, and exactly that many are not 0.
-pub fn index_is_sparse(index: &[u16], capacity: usize, points: usize) -> bool
-    requires { ⌜ length (now index) ≡ 2 * capacity ⌝ }
-    ensures { λ r. ⌜ r ≡ sparse capacity points (entryAt (now (index .entry))) ⌝ }
+pub fn index_is_sparse(index: &[u16], points: usize) -> bool
+    ensures { λ r. ⌜ r ≡ sparse (length (now (index .entry))) points (entryAt (now (index .entry))) ⌝ }
 {
     let places = index.len();
     let mut named = 0;
@@ -38,9 +37,8 @@ pub fn index_is_sparse(index: &[u16], capacity: usize, points: usize) -> bool
 // Whether the search for the key of point i ends at a place that names point i. It is compared in 16
 // bits: an equality with the loop's own i + 1 would let the compiler go on from the entry read, and then
 // each search would wait for the one before it.
-fn finds(keys: &[i32], index: &[u16], d: usize, capacity: usize, points: usize, i: usize) -> bool
-    requires { ⌜ Findable d capacity points (now keys) (now index) ⌝ }
-    requires { ⌜ i < points ⌝ }
+fn finds(keys: &[i32], index: &[u16], d: usize, capacity: usize, i: usize) -> bool
+    requires { ⌜ Findable d capacity (suc i) (now keys) (now index) ⌝ }
     ensures { λ r. ⌜ r ≡ isFound d capacity (now (keys .entry)) (now (index .entry)) i ⌝ }
 {
     let a = d * i;
@@ -56,7 +54,7 @@ pub fn finds_all(keys: &[i32], index: &[u16], d: usize, capacity: usize, points:
     ensures { λ r. ⌜ r ≡ finding capacity points (keyAt d (now (keys .entry))) (entryAt (now (index .entry))) ⌝ }
 {
     for i in 0..points {
-        if !finds(keys, index, d, capacity, points, i) {
+        if !finds(keys, index, d, capacity, i) {
             return false;
         }
     }

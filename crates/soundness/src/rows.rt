@@ -1,6 +1,6 @@
 // The points of a table: each key and pair, and the sum of the masses.
 ghost use mathlib.Core.Path.{_≡_};
-ghost use Prim.Native.Nat.{_*_, _<_, _≤_};
+ghost use Prim.Native.Nat.{suc, _*_, _≤_};
 ghost use Rattle.lattice.specs.Limits.{most-d, most-S, most-readings};
 ghost use Rattle.lattice.specs.Weight.{W};
 ghost use Rattle.soundness.specs.Inner.{lightPair, lightRow, goodRows, Rows};
@@ -34,9 +34,8 @@ fn good_pair(mass: i64, value: i64, total: u32) -> bool
 }
 
 // The key and the pair of point i.
-fn good_row(keys: &[i32], sums: &[i64], d: usize, points: usize, total: u32, i: usize) -> bool
-    requires { ⌜ Rows d points (now keys) (now sums) ⌝ }
-    requires { ⌜ i < points ⌝ }
+fn good_row(keys: &[i32], sums: &[i64], d: usize, total: u32, i: usize) -> bool
+    requires { ⌜ Rows d (suc i) (now keys) (now sums) ⌝ }
     ensures { λ r. ⌜ r ≡ lightRow total d (now (keys .entry)) (now (sums .entry)) i ⌝ }
 {
     let a = d * i;
@@ -56,7 +55,7 @@ pub fn rows_are_good(keys: &[i32], sums: &[i64], d: usize, points: usize, total:
 {
     let mut masses: i64 = 0;
     for i in 0..points {
-        if !good_row(keys, sums, d, points, total, i) {
+        if !good_row(keys, sums, d, total, i) {
             return false;
         }
         let mass = sums[2 * i];

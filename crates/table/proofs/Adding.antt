@@ -15,9 +15,9 @@ use Rattle.whole.specs.Sum.{over}
 use Rattle.whole.proofs.Lists.{length-tab, getD-tab}
 use Rattle.index.specs.Indexed.{Indexed}
 use Rattle.index.proofs.Finding.{search-lt, found-low, found-key, key-found, new-point-found}
-use Rattle.table.specs.Table.{Settings, Table, Row, key, row, rows, entry, seek, found}
+use Rattle.table.specs.Table.{Settings, Table, Row, key, row, rows, entry, seek, found, keysOf}
 use Rattle.table.specs.Sound.{Good}
-use Rattle.table.specs.Pour.{append, raise, addAt, add, news}
+use Rattle.table.specs.Pour.{append, raise, addAt, add, news, newsIn}
 use Rattle.table.specs.Inner.{Kept}
 use Rattle.table.proofs.Lists.{over-snoc, over-set}
 use Rattle.table.proofs.Rows.{join, Additive}
@@ -27,7 +27,7 @@ use Rattle.table.proofs.Good.{good-join}
 -- ---- what is found in a table
 module _ (c : Settings) (some : 0 < c .C) (t : Table) (K : Kept c t) where
   pub seek-lt : (k : List ℤ) → seek c t k < 2 * c .C
-  seek-lt k = search-lt (c .C) (t .m) (key c t) (entry t) some (K .indexed .sparse) k
+  seek-lt k = search-lt (c .C) (key c t) (entry t) some k
 
   pub low-found : (k : List ℤ) (i : ℕ) → found c t k ≡ suc i → i < t .m
   low-found = found-low (c .C) (t .m) (key c t) (entry t) some (K .indexed .sparse)
@@ -134,7 +134,7 @@ module _ (c : Settings) (some : 0 < c .C) (t : Table) (K : Kept c t) (r : Row) (
               other (inl s) = h (sym (key-new c t place r (K .shape) (room e) (R .size)) ∙ ap (key c after) (sym s) ∙ k)
               other (inr l) = let s = finds-key c some t K z i l (sym (key-old c t place r (K .shape) (room e) (R .size) i l) ∙ k) in omega (arith, s, p)
 
-  pub add-news : (rs : List Row) → All (λ b. r .key ≢ b .key) rs → news c (add c t r) rs ≡ news c t rs
-  unfolding news
+  pub add-news : (rs : List Row) → All (λ b. r .key ≢ b .key) rs → news c (add c t r) (keysOf rs) ≡ news c t (keysOf rs)
+  unfolding newsIn
   add-news [] h = refl
   add-news (b ∷ rs) h = ap₂ (λ (x : Bool) (n : ℕ). cond x 1 0 + n) (add-found (b .key) (h .0)) (add-news rs (h .1))

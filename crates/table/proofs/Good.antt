@@ -20,7 +20,7 @@ use Rattle.lattice.specs.Limits.{farthest-point, most-value}
 use Rattle.lattice.specs.Lattice.{Point, remainderOf}
 use Rattle.index.proofs.Equality.{eq-eqb}
 use Rattle.table.specs.Table.{Row, whole}
-use Rattle.table.specs.Sound.{within, oneRemainder, allReached, goodKey, goodPair, good, Good}
+use Rattle.table.specs.Sound.{withinPlusMinus, oneRemainder, allReached, goodKey, goodPair, good, Good}
 use Rattle.table.proofs.Rows.{join}
 
 -- ---- a lattice point and its key
@@ -112,9 +112,9 @@ pub to-good-pair : (m v : ℤ) → T (goodPair m v) → GoodPair m v
 unfolding goodPair
 to-good-pair m v t =
     let b = pos most-value *ℤ m in
-    let s = and-r (leZ (pos 1) m) (within b v) t in
+    let s = and-r (leZ (pos 1) m) (withinPlusMinus b v) t in
     record {
-      some = leZ-yes (and-l (leZ (pos 1) m) (within b v) t);
+      some = leZ-yes (and-l (leZ (pos 1) m) (withinPlusMinus b v) t);
       low = leZ-yes (and-l (leZ (negℤ b) v) (leZ v b) s);
       high = leZ-yes (and-r (leZ (negℤ b) v) (leZ v b) s);
     }
@@ -123,7 +123,7 @@ pub of-good-pair : (m v : ℤ) → GoodPair m v → T (goodPair m v)
 unfolding goodPair
 of-good-pair m v G =
     let b = pos most-value *ℤ m in
-    and-i (leZ (pos 1) m) (within b v) (G .some .le) (and-i (leZ (negℤ b) v) (leZ v b) (G .low .le) (G .high .le))
+    and-i (leZ (pos 1) m) (withinPlusMinus b v) (G .some .le) (and-i (leZ (negℤ b) v) (leZ v b) (G .low .le) (G .high .le))
 
 -- ---- a stored point
 pub to-good : (d : ℕ) (r : Row) → length (r .key) ≡ d → T (good d r) → Good d r

@@ -1,14 +1,14 @@
 -- Soundness is kept: by accepting rows, hence by entering readings and by merging a table; a fresh table is sound. What each adds to the
 -- sums over the rows.
 use mathlib.Core.Path.{_≡_, refl, sym, ap, ap₂, _∙_, subst}
-use mathlib.Core.Bool.{Bool, false, _&&_}
-use mathlib.Core.List.{List, [], _∷_}
+use mathlib.Core.Bool.{Bool, false}
+use mathlib.Core.List.{List, _++_}
 use Prim.Native.Nat.{ℕ, zero, suc, _+_, _*_, _/_, _≤_}
 use native.Mathlib.Nat.{not-suc-le-zero}
 use native.Mathlib.Omega.{arith}
 use lib.IntN.{ℤ, pos, _+ℤ_}
 use lib.Signed.{_≤ℤ_}
-use lib.Dec.{T, eqb, eqb→eq, leb, leb→le}
+use lib.Dec.{T, eqb, eqb→eq, leb→le}
 use lib.ListN.{length, length-replicate, getD-replicate}
 use Rattle.whole.specs.Sum.{sum, over}
 use Rattle.whole.specs.Lists.{at, All, Each}
@@ -16,21 +16,20 @@ use Rattle.whole.proofs.Parts.{le-out}
 use Rattle.whole.proofs.Lists.{length-tab}
 use Rattle.whole.proofs.Tests.{and-l, and-r}
 use Rattle.lattice.specs.Limits.{most-W, most-readings}
-use Rattle.lattice.specs.Refusals.{settings-out-of-range, other-length, not-sound, settings-differ, too-many-readings, too-many-points}
 use Rattle.lattice.specs.Weight.{W}
+use Rattle.lattice.proofs.Tests.{all-pass}
 use Rattle.index.specs.Indexed.{count, used}
 use Rattle.index.proofs.Count.{count-cong}
 use Rattle.index.proofs.Finding.{keys-apart}
-use Rattle.table.specs.Table.{Settings, Table, Row, key, row, rows, entry, massOf}
+use Rattle.table.specs.Table.{Settings, Table, Row, key, row, rows, entry, massOf, keysOf}
 use Rattle.table.specs.Sound.{sound, Good, Ranged, Fine}
 use Rattle.table.specs.Pour.{pour, news, accept}
 use Rattle.table.specs.Reading.{Reading, readingAt, parsed, shares, refusal, entered}
-use Rattle.table.specs.Calls.{ranged, fits, fresh, mergeRefusal, merged, callRefusal}
+use Rattle.table.specs.Calls.{ranged, fits, fresh, eachTests, bothTests, mergeRefusal, merged, callRefusal}
 use Rattle.table.proofs.Lists.{all-tab, each-tab}
 use Rattle.table.proofs.Rows.{Apart, Additive}
 use Rattle.table.proofs.Soundness.{to-ranged, to-shape, to-sound, fine-kept, masses-over, total-most}
 use Rattle.table.proofs.Pouring.{Pourable, poured-all}
-use Rattle.table.proofs.Refusals.{first-zero}
 use Rattle.table.proofs.Shares.{Accepted, accepted, shares-apart, shares-mass, shares-good}
 
 -- ---- accepting rows
@@ -43,7 +42,7 @@ pub record Acceptable (c : Settings) (t : Table) (rs : List Row) (k : ℕ) : Typ
   pub fine : Fine c t
   pub good : All (Good (c .d)) rs
   pub apart : Each Apart rs
-  pub room : t .m + news c t rs ≤ c .C
+  pub room : t .m + news c t (keysOf rs) ≤ c .C
   pub few : t .n + k ≤ most-readings
   pub total : over rs massOf ≡ pos (W (c .d) (c .S) * k)
 
@@ -118,10 +117,8 @@ pub record Called (c : Settings) (t : Table) (more : Bool) : Type 0 where
 pub called : (c : Settings) (t : Table) (more : Bool) → callRefusal c t more ≡ 0 → Called c t more
 unfolding callRefusal
 called c t more e =
-    let (t1, e1) = first-zero (ranged c) 0 ((fits c t && more, other-length) ∷ (sound c t, not-sound) ∷ []) e in
-    let (t2, e2) = first-zero (fits c t && more) 1 ((sound c t, not-sound) ∷ []) e1 in
-    let (t3, e3) = first-zero (sound c t) 2 [] e2 in
-    record { fine = record { ranged = to-ranged c t1; shape = to-shape c t (and-l (fits c t) more t2); sound = to-sound c t t3 }; whole = and-r (fits c t) more t2 }
+    let p = all-pass _ tt e in
+    record { fine = record { ranged = to-ranged c (p .0); shape = to-shape c t (and-l (fits c t) more (p .1 .0)); sound = to-sound c t (p .1 .1 .0) }; whole = and-r (fits c t) more (p .1 .0) }
 
 -- ---- merging
 pub record Mergeable (c : Settings) (t : Table) (b : Settings) (s : Table) : Type 0 where
@@ -130,39 +127,24 @@ pub record Mergeable (c : Settings) (t : Table) (b : Settings) (s : Table) : Typ
   pub same-d : c .d ≡ b .d
   pub same-S : c .S ≡ b .S
   pub few : t .n + s .n ≤ most-readings
-  pub room : t .m + news c t (rows b s) ≤ c .C
+  pub room : t .m + news c t (keysOf (rows b s)) ≤ c .C
 
 pub mergeable : (c : Settings) (t : Table) (b : Settings) (s : Table) → mergeRefusal c t b s ≡ 0 → Mergeable c t b s
 unfolding mergeRefusal
 mergeable c t b s e =
     let x = eqb (c .d) (b .d) in
     let y = eqb (c .S) (b .S) in
-    let f = leb (t .n + s .n) most-readings in
-    let g = leb (t .m + news c t (rows b s)) (c .C) in
-    let l9 : List (Bool × ℕ) = (g, too-many-points) ∷ [] in
-    let l8 : List (Bool × ℕ) = (f, too-many-readings) ∷ l9 in
-    let l7 : List (Bool × ℕ) = (x && y, settings-differ) ∷ l8 in
-    let l6 : List (Bool × ℕ) = (sound b s, not-sound) ∷ l7 in
-    let l5 : List (Bool × ℕ) = (sound c t, not-sound) ∷ l6 in
-    let l4 : List (Bool × ℕ) = (fits b s, other-length) ∷ l5 in
-    let l3 : List (Bool × ℕ) = (fits c t, other-length) ∷ l4 in
-    let l2 : List (Bool × ℕ) = (ranged b, settings-out-of-range) ∷ l3 in
-    let (t1, e1) = first-zero (ranged c) 0 l2 e in
-    let (t2, e2) = first-zero (ranged b) 0 l3 e1 in
-    let (t3, e3) = first-zero (fits c t) 1 l4 e2 in
-    let (t4, e4) = first-zero (fits b s) 1 l5 e3 in
-    let (t5, e5) = first-zero (sound c t) 2 l6 e4 in
-    let (t6, e6) = first-zero (sound b s) 2 l7 e5 in
-    let (t7, e7) = first-zero (x && y) 8 l8 e6 in
-    let (t8, e8) = first-zero f 6 l9 e7 in
-    let (t9, e9) = first-zero g 7 [] e8 in
+    let p = all-pass (eachTests c t b s ++ bothTests c b (t .n + s .n) (t .m + news c t (keysOf (rows b s)))) tt e in
+    let q = p .1 .1 in
+    let r = q .1 .1 in
+    let l = r .1 .1 in
     record {
-      target = record { ranged = to-ranged c t1; shape = to-shape c t t3; sound = to-sound c t t5 };
-      source = record { ranged = to-ranged b t2; shape = to-shape b s t4; sound = to-sound b s t6 };
-      same-d = eqb→eq (c .d) (b .d) (and-l x y t7);
-      same-S = eqb→eq (c .S) (b .S) (and-r x y t7);
-      few = leb→le (t .n + s .n) most-readings t8;
-      room = leb→le (t .m + news c t (rows b s)) (c .C) t9;
+      target = record { ranged = to-ranged c (p .0); shape = to-shape c t (q .0); sound = to-sound c t (r .0) };
+      source = record { ranged = to-ranged b (p .1 .0); shape = to-shape b s (q .1 .0); sound = to-sound b s (r .1 .0) };
+      same-d = eqb→eq (c .d) (b .d) (and-l x y (l .0));
+      same-S = eqb→eq (c .S) (b .S) (and-r x y (l .0));
+      few = leb→le (t .n + s .n) most-readings (l .1 .0);
+      room = leb→le (t .m + news c t (keysOf (rows b s))) (c .C) (l .1 .1 .0);
     }
 
 module _ (b : Settings) (s : Table) (F : Fine b s) where

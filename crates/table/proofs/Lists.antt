@@ -113,6 +113,11 @@ module _ {A : Type 0} where
   over-tab (suc n) g f = ap (λ (z : ℤ). f (g 0) +ℤ z) (over-tab n (λ i. g (suc i)) f) ∙ sym (sum-first n (λ i. f (g i)))
 
 module _ {A B : Type 0} where
+  pub map-tab : (g : A → B) (n : ℕ) (f : ℕ → A) → map g (tab n f) ≡ tab n (λ i. g (f i))
+  unfolding tab
+  map-tab g zero f = refl
+  map-tab g (suc n) f = ap (λ (l : List B). g (f 0) ∷ l) (map-tab g n (λ i. f (suc i)))
+
   pub all-map : (Q : B → Type 0) (f : A → B) (l : List A) → All (λ a. Q (f a)) l → All Q (map f l)
   all-map Q f [] h = tt
   all-map Q f (a ∷ l) h = (h .0, all-map Q f l (h .1))

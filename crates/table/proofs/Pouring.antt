@@ -2,7 +2,7 @@
 -- added where all together have room.
 use mathlib.Core.Path.{_≡_, refl, sym, ap, _∙_, subst}
 use mathlib.Core.Bool.{cond}
-use mathlib.Core.List.{List, [], _∷_, _++_, append-assoc}
+use mathlib.Core.List.{List, [], _∷_, _++_, append-assoc, map-append}
 use Prim.Native.Nat.{ℕ, suc, _+_, _*_, _≤_, _<_}
 use native.Mathlib.Omega.{arith}
 use lib.IntN.{ℤ, +ℤ-idr, +ℤ-assoc, pos, _+ℤ_}
@@ -13,9 +13,9 @@ use Rattle.whole.specs.Sum.{over}
 use Rattle.whole.proofs.Linear.{on, difs, ints}
 use Rattle.whole.proofs.Sum.{over-append}
 use Rattle.lattice.specs.Limits.{most-W, most-readings}
-use Rattle.table.specs.Table.{Settings, Table, Row, rows, found, massOf}
+use Rattle.table.specs.Table.{Settings, Table, Row, rows, found, massOf, keysOf}
 use Rattle.table.specs.Sound.{Good, Ranged}
-use Rattle.table.specs.Pour.{append, add, pour, news}
+use Rattle.table.specs.Pour.{append, add, pour, oneIfNew, newsIn, news}
 use Rattle.table.specs.Inner.{Kept, Addable}
 use Rattle.table.proofs.Lists.{all-before, all-after, each-before}
 use Rattle.table.proofs.Rows.{Apart, Additive}
@@ -31,31 +31,32 @@ pub pour-snoc : (c : Settings) (t : Table) (a : List Row) (r : Row) → pour c t
 unfolding pour
 pour-snoc c t a r = pour-append c t a (r ∷ [])
 
-pub news-append : (c : Settings) (t : Table) (a b : List Row) → news c t (a ++ b) ≡ news c t a + news c t b
-unfolding news
-news-append c t [] b = omega arith
-news-append c t (r ∷ a) b = ap (λ (n : ℕ). cond (eqb (found c t (r .key)) 0) 1 0 + n) (news-append c t a b) ∙ omega arith
+module _ (c : Settings) (keys : List ℤ) (index : List ℕ) where
+  pub news-append : (a b : List (List ℤ)) → newsIn c keys index (a ++ b) ≡ newsIn c keys index a + newsIn c keys index b
+  unfolding newsIn
+  news-append [] b = omega arith
+  news-append (k ∷ a) b = ap (λ (n : ℕ). oneIfNew c keys index k + n) (news-append a b) ∙ omega arith
 
-pub news-snoc : (c : Settings) (t : Table) (a : List Row) (r : Row) → news c t (a ++ (r ∷ [])) ≡ news c t a + cond (eqb (found c t (r .key)) 0) 1 0
-unfolding news
-news-snoc c t a r = news-append c t a (r ∷ []) ∙ omega arith
+  pub news-snoc : (a : List (List ℤ)) (k : List ℤ) → newsIn c keys index (a ++ (k ∷ [])) ≡ newsIn c keys index a + oneIfNew c keys index k
+  unfolding newsIn
+  news-snoc a k = news-append a (k ∷ []) ∙ omega arith
 
-pub news-before : (c : Settings) (t : Table) (a b : List Row) → news c t a ≤ news c t (a ++ b)
-news-before c t a b = omega (arith, news-append c t a b)
+pub news-before : (c : Settings) (t : Table) (a b : List Row) → news c t (keysOf a) ≤ news c t (keysOf (a ++ b))
+news-before c t a b = omega (arith, ap (news c t) (map-append (λ (r : Row). r .key) a b), news-append c (t .keys) (t .index) (keysOf a) (keysOf b))
 
 -- ---- after all of them
 pub record Poured (c : Settings) (t : Table) (rs : List Row) : Type 0 where
   pub kept : Kept c (pour c t rs)
   pub same-n : (pour c t rs) .n ≡ t .n
-  pub points : (pour c t rs) .m ≡ t .m + news c t rs
+  pub points : (pour c t rs) .m ≡ t .m + news c t (keysOf rs)
   pub adds : (f : Row → ℤ) → Additive f → over (rows c (pour c t rs)) f ≡ over (rows c t) f +ℤ over rs f
 
-pub poured : (c : Settings) → 0 < c .C → (rs : List Row) (t : Table) → Kept c t → All (Good (c .d)) rs → Each Apart rs → t .m + news c t rs ≤ c .C → Poured c t rs
-unfolding pour news over
+pub poured : (c : Settings) → 0 < c .C → (rs : List Row) (t : Table) → Kept c t → All (Good (c .d)) rs → Each Apart rs → t .m + news c t (keysOf rs) ≤ c .C → Poured c t rs
+unfolding pour newsIn over
 poured c some [] t K G A room = record { kept = K; same-n = refl; points = omega arith; adds = λ f F. sym (+ℤ-idr (over (rows c t) f)) }
 poured c some (r ∷ rs) t K G A room =
     let fits : found c t (r .key) ≡ 0 → t .m < c .C = room-one in
-    let n : news c (add c t r) rs ≡ news c t rs = add-news c some t K r (G .0) fits rs (A .0) in
+    let n : news c (add c t r) (keysOf rs) ≡ news c t (keysOf rs) = add-news c some t K r (G .0) fits rs (A .0) in
     let m = add-m c some t K r (G .0) fits in
     let P = poured c some rs (add c t r) (add-kept c some t K r (G .0) fits) (G .1) (A .1) (omega (arith, n, m)) in
     record {
@@ -66,7 +67,7 @@ poured c some (r ∷ rs) t K G A room =
     }
   where
     room-one : found c t (r .key) ≡ 0 → t .m < c .C
-    room-one e = let h : t .m + (cond (eqb 0 0) 1 0 + news c t rs) ≤ c .C = subst (λ (x : ℕ). t .m + (cond (eqb x 0) 1 0 + news c t rs) ≤ c .C) e room in omega arith
+    room-one e = let h : t .m + (cond (eqb 0 0) 1 0 + news c t (keysOf rs)) ≤ c .C = subst (λ (x : ℕ). t .m + (cond (eqb x 0) 1 0 + news c t (keysOf rs)) ≤ c .C) e room in omega arith
 
 -- ---- rows that may be poured: good ones of different points, for which there is room, and no more mass than 4,096 readings have
 pub record Pourable (c : Settings) (t : Table) (rs : List Row) : Type 0 where
@@ -74,7 +75,7 @@ pub record Pourable (c : Settings) (t : Table) (rs : List Row) : Type 0 where
   pub kept : Kept c t
   pub good : All (Good (c .d)) rs
   pub apart : Each Apart rs
-  pub room : t .m + news c t rs ≤ c .C
+  pub room : t .m + news c t (keysOf rs) ≤ c .C
   pub light : (over (rows c t) massOf +ℤ over rs massOf) ≤ℤ pos (most-W * most-readings)
 
 pub masses-low : (d : ℕ) (rs : List Row) → All (Good d) rs → pos 0 ≤ℤ over rs massOf
@@ -94,7 +95,7 @@ poured-all c t rs P = poured c (P .ranged .C-least) rs t (P .kept) (P .good) (P 
 
 -- the next of them
 next-addable : (c : Settings) (t : Table) (a : List Row) (r : Row) (b : List Row) → Pourable c t (a ++ (r ∷ b)) → Addable c (pour c t a) r
-unfolding over news append
+unfolding over newsIn append
 next-addable c t a r b P = record {
   ranged = P .ranged;
   kept = B .kept;
@@ -120,7 +121,7 @@ next-addable c t a r b P = record {
     B′ = before-all c t (a ++ (r ∷ [])) b (subst (Pourable c t) (sym split) P)
 
     room : found c (pour c t a) (r .key) ≡ 0 → (pour c t a) .m < c .C
-    room e = omega (arith, more e, ap (λ (u : Table). u .m) (pour-snoc c t a r), B′ .points, news-before c t (a ++ (r ∷ [])) b, ap (news c t) split, P .room)
+    room e = omega (arith, more e, ap (λ (u : Table). u .m) (pour-snoc c t a r), B′ .points, news-before c t (a ++ (r ∷ [])) b, ap (λ (l : List Row). news c t (keysOf l)) split, P .room)
 
     lin : (x a r b u s w : ℤ) → pos 0 ≤ℤ b → u ≡ x +ℤ a → s ≡ a +ℤ (r +ℤ b) → (x +ℤ s) ≤ℤ w → (u +ℤ r) ≤ℤ w
     lin = on _ λ a b. on _ λ c d. on _ λ e f. on _ λ g h. on _ λ i j. on _ λ k l. on _ λ m n. simp difs (omega ints)

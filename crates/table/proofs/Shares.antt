@@ -2,13 +2,13 @@
 -- its weight times the value.
 use mathlib.Core.Path.{_≡_, refl, sym, ap, _∙_}
 use mathlib.Core.Logic.{_⊎_, inl, inr}
-use mathlib.Core.List.{List, [], _∷_, map}
+use mathlib.Core.List.{List, [], _∷_, _++_, map}
 use Prim.Native.Nat.{ℕ, suc, _+_, _*_, _≤_, _<_}
 use native.Mathlib.Nat.{eq-zero-or-pos, mul-le-mul-left}
 use native.Mathlib.Omega.{arith}
 use lib.IntN.{ℤ, zero-*ℤ, pos, negℤ, natAbs, _*ℤ_}
 use lib.Signed.{_≤ℤ_}
-use lib.Dec.{T, leb, leb→le}
+use lib.Dec.{T, leb→le}
 use lib.ListN.{length, getD, take}
 use Rattle.whole.specs.Size.{Abs≤}
 use Rattle.whole.specs.Sum.{sum, over}
@@ -25,44 +25,37 @@ use Rattle.lattice.specs.Points.{Points, points, weighed}
 use Rattle.lattice.specs.Position.{Position, allNear, sumsToZero}
 use Rattle.lattice.proofs.Points.{remainder-once, exactly-these, all-sum-to-W}
 use Rattle.lattice.proofs.Reach.{reach}
+use Rattle.lattice.proofs.Tests.{all-pass}
 use Rattle.lattice.proofs.Judging.{judged-none, judged-right}
 use Rattle.index.specs.Keys.{same}
 use Rattle.index.proofs.Equality.{same-eq, eq-same}
-use Rattle.table.specs.Table.{Settings, Table, Row, massOf}
+use Rattle.table.specs.Table.{Settings, Table, Row, massOf, keysOf}
 use Rattle.table.specs.Sound.{Good, Ranged}
-use Rattle.table.specs.Pour.{news}
-use Rattle.table.specs.Reading.{Reading, share, shares, refusal}
+use Rattle.table.specs.Pour.{news, roomTest}
+use Rattle.table.specs.Reading.{Reading, share, shares, ownTests, refusal}
 use Rattle.table.specs.Inner.{weighedRow}
 use Rattle.table.proofs.Lists.{all-list, each-list, all-map, each-map, over-map}
 use Rattle.table.proofs.Rows.{Apart, valueOf, gives, given, pair-path}
 use Rattle.table.proofs.Good.{key-size, whole-key, key-tells}
-use Rattle.table.proofs.Refusals.{first-zero}
 
 -- ---- an accepted reading
 pub record Accepted (c : Settings) (t : Table) (r : Reading) : Type 0 where
   pub position : Position (c .d) (r .position)
   pub fair : Abs≤ (r .value) most-value
   pub few : t .n + 1 ≤ most-readings
-  pub room : t .m + news c t (shares (c .d) (c .S) r) ≤ c .C
+  pub room : t .m + news c t (keysOf (shares (c .d) (c .S) r)) ≤ c .C
 
 pub accepted : (c : Settings) (t : Table) (r : Reading) → length (r .position) ≡ suc (c .d) → refusal c t r ≡ 0 → Accepted c t r
 unfolding refusal
 accepted c t r size e =
     let a = allNear (r .position) in
     let b = sumsToZero (r .position) in
-    let v = leb (natAbs (r .value)) most-value in
-    let f = leb (t .n + 1) most-readings in
-    let g = leb (t .m + news c t (shares (c .d) (c .S) r)) (c .C) in
-    let (ta, e1) = first-zero a 3 ((b, 5) ∷ (v, 6) ∷ (f, 7) ∷ (g, 8) ∷ []) e in
-    let (tb, e2) = first-zero b 4 ((v, 6) ∷ (f, 7) ∷ (g, 8) ∷ []) e1 in
-    let (tv, e3) = first-zero v 5 ((f, 7) ∷ (g, 8) ∷ []) e2 in
-    let (tf, e4) = first-zero f 6 ((g, 8) ∷ []) e3 in
-    let (tg, e5) = first-zero g 7 [] e4 in
+    let p = all-pass (ownTests (t .n) r ++ (roomTest (c .C) (t .m + news c t (keysOf (shares (c .d) (c .S) r))) ∷ [])) tt e in
     record {
-      position = judged-right (c .d) (r .position) size .none .0 (judged-none (r .position) (T-true a ta) (T-true b tb));
-      fair = abs-of (r .value) most-value (leb→le (natAbs (r .value)) most-value tv);
-      few = leb→le (t .n + 1) most-readings tf;
-      room = leb→le (t .m + news c t (shares (c .d) (c .S) r)) (c .C) tg;
+      position = judged-right (c .d) (r .position) size .none .0 (judged-none (r .position) (T-true a (p .0)) (T-true b (p .1 .0)));
+      fair = abs-of (r .value) most-value (leb→le (natAbs (r .value)) most-value (p .1 .1 .0));
+      few = leb→le (t .n + 1) most-readings (p .1 .1 .1 .0);
+      room = leb→le (t .m + news c t (keysOf (shares (c .d) (c .S) r))) (c .C) (p .1 .1 .1 .1 .0);
     }
 
 -- ---- a weight times a value

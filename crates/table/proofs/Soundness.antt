@@ -15,13 +15,14 @@ use Rattle.whole.proofs.Tests.{and-l, and-r, and-i, all-at, all-of}
 use Rattle.lattice.specs.Limits.{most-d, most-S, most-C, most-W, most-readings}
 use Rattle.lattice.specs.Weight.{W}
 use Rattle.index.specs.Keys.{eqZ}
-use Rattle.index.specs.Indexed.{sparse, finding}
+use Rattle.index.specs.Search.{Searchable}
+use Rattle.index.specs.Indexed.{sparse, finding, Sparse}
 use Rattle.index.proofs.Equality.{eq-eqb, eqZ-eq, eqZ-refl, keyAt-length}
+use Rattle.index.proofs.Steps.{searchable}
 use Rattle.index.proofs.Finding.{to-sparse, of-sparse, to-indexed, of-indexed}
 use Rattle.table.specs.Table.{Settings, Table, key, mass, row, rows, entry, massOf}
 use Rattle.table.specs.Sound.{good, indexed, sound, Sound, Ranged, Shape, Fine}
 use Rattle.table.specs.Calls.{ranged, fits}
-use Rattle.table.specs.Theorems.{Usable}
 use Rattle.table.specs.Inner.{Kept}
 use Rattle.table.proofs.Lists.{over-tab}
 use Rattle.table.proofs.Good.{to-good, of-good}
@@ -104,7 +105,7 @@ module _ (c : Settings) (t : Table) where
   few = leb (t .n) most-readings
 
   abbrev thin : Bool
-  thin = sparse (c .C) (t .m) (entry t)
+  thin = sparse (2 * c .C) (t .m) (entry t)
 
   abbrev finds : Bool
   finds = finding (c .C) (t .m) (key c t) (entry t)
@@ -140,14 +141,15 @@ module _ (c : Settings) (t : Table) where
       (all-of (t .m) (λ i. good (c .d) (row c t i)) (λ i l. of-good (c .d) (row c t i) (Q .good i l)))
       (subst (λ (z : ℤ). T (eqZ (sum (t .m) (mass t)) z)) (Q .masses) (eqZ-refl (sum (t .m) (mass t)))))
 
-pub to-fine : (c : Settings) (t : Table) → Usable c t → Fine c t
-to-fine c t U = record { ranged = to-ranged c (U .in-range); shape = to-shape c t (U .lengths); sound = to-sound c t (U .is-sound) }
-
-pub of-fine : (c : Settings) (t : Table) → Fine c t → Usable c t
-of-fine c t F = record { in-range = of-ranged c (F .ranged); lengths = of-shape c t (F .shape); is-sound = of-sound c t (F .sound) }
-
 pub fine-kept : (c : Settings) (t : Table) → Fine c t → Kept c t
 fine-kept c t F = record { shape = F .shape; indexed = F .sound .indexed; good = F .sound .good }
+
+-- keys can be searched for in the lent memory
+pub table-searched : (c : Settings) (t : Table) → Ranged c → Shape c t → Sparse (c .C) (t .m) (entry t) → Searchable (c .d) (c .C) (t .keys) (t .index)
+table-searched c t R H Q = searchable (c .d) (c .C) (t .m) (t .keys) (t .index) (R .C-least) (R .C-most) (H .index) (H .keys) Q
+
+pub fine-searched : (c : Settings) (t : Table) → Fine c t → Searchable (c .d) (c .C) (t .keys) (t .index)
+fine-searched c t F = table-searched c t (F .ranged) (F .shape) (F .sound .indexed .sparse)
 
 -- ---- no mass passes the sum of the masses
 sum-low : (n : ℕ) (f : ℕ → ℤ) → ((i : ℕ) → i < n → pos 1 ≤ℤ f i) → pos 0 ≤ℤ sum n f

@@ -6,7 +6,7 @@ use lib.IntN.{ℤ}
 use Rattle.table.specs.declared.Head.{Head}
 use Rattle.table.specs.Table.{Settings, Table, Row, found}
 use Rattle.table.specs.Pour.{append, raise, addAt, add, pour}
-use Rattle.table.specs.Heads.{stored, Holds}
+use Rattle.table.specs.Heads.{tableWith, Holds}
 use Rattle.table.specs.Inner.{Addable, InTurn}
 use Rattle.table.proofs.Pouring.{Pourable, addable, pour-append}
 
@@ -22,10 +22,10 @@ pour-n c t [] = refl
 pour-n c t (r ∷ rs) = pour-n c (add c t r) rs ∙ add-n c t r (found c t (r .key))
 
 -- memory that holds a table, with its number of readings, is that table
-pub same-table : (h : Head) (u : Table) (points : ℕ) (keys sums : List ℤ) (index : List ℕ) → u .n ≡ h .readings → Holds u points keys sums index → stored h points keys sums index ≡ u
+pub same-table : (h : Head) (u : Table) (points : ℕ) (keys sums : List ℤ) (index : List ℕ) → u .n ≡ h .readings → Holds u points keys sums index → tableWith h points keys sums index ≡ u
 same-table h u points keys sums index e H = λ i. record { n = sym e i; m = H .points-are i; keys = H .keys-are i; sums = H .sums-are i; index = H .index-are i }
 
-pub holds-of : (h : Head) (u : Table) (points : ℕ) (keys sums : List ℤ) (index : List ℕ) → stored h points keys sums index ≡ u → Holds u points keys sums index
+pub holds-of : (h : Head) (u : Table) (points : ℕ) (keys sums : List ℤ) (index : List ℕ) → tableWith h points keys sums index ≡ u → Holds u points keys sums index
 holds-of h u points keys sums index e = record {
   points-are = ap (λ (t : Table). t .m) e;
   keys-are = ap (λ (t : Table). t .keys) e;
@@ -35,10 +35,10 @@ holds-of h u points keys sums index e = record {
 
 -- a stretch more
 pub pour-turn : (c : Settings) (h : Head) (t : Table) (x y z : List Row) (points points′ : ℕ) (keys keys′ sums sums′ : List ℤ) (index index′ : List ℕ)
-    → stored h points keys sums index ≡ pour c t x → Holds (pour c (stored h points keys sums index) y) points′ keys′ sums′ index′ → z ≡ x ++ y
-    → stored h points′ keys′ sums′ index′ ≡ pour c t z
+    → tableWith h points keys sums index ≡ pour c t x → Holds (pour c (tableWith h points keys sums index) y) points′ keys′ sums′ index′ → z ≡ x ++ y
+    → tableWith h points′ keys′ sums′ index′ ≡ pour c t z
 pour-turn c h t x y z points points′ keys keys′ sums sums′ index index′ e H q =
-    let s = stored h points keys sums index in
+    let s = tableWith h points keys sums index in
     same-table h (pour c s y) points′ keys′ sums′ index′ (pour-n c s y) H ∙ ap (λ (u : Table). pour c u y) e ∙ sym (pour-append c t x y) ∙ ap (pour c t) (sym q)
 
 -- rows that may be added in turn may be so from the middle on

@@ -1,26 +1,26 @@
 -- Fresh, enter and merge: what each answers and what it leaves, for every input.
 use mathlib.Core.Bool.{Bool, _&&_}
-use mathlib.Core.List.{List, [], _∷_}
+use mathlib.Core.List.{List, [], _∷_, _++_}
 use Prim.Native.Nat.{ℕ, zero, suc, _+_, _*_, _%_}
 use lib.Dec.{eqb, leb}
 use lib.IntN.{ℤ, pos}
 use lib.ListN.{length, replicate}
-use Rattle.lattice.specs.Limits.{most-d, most-S, most-C, most-readings}
-use Rattle.lattice.specs.Refusals.{first, settings-out-of-range, other-length, not-sound, settings-differ, too-many-readings, too-many-points}
-use Rattle.table.specs.Table.{Settings, Table, rows}
+use Rattle.lattice.specs.Limits.{most-d, most-S, most-C}
+use Rattle.lattice.specs.Refusals.{Tests, first, settings-out-of-range, other-length, not-sound, settings-differ}
+use Rattle.table.specs.Table.{Settings, Table, rows, keysOf}
 use Rattle.table.specs.Sound.{sound}
-use Rattle.table.specs.Pour.{news, accept}
+use Rattle.table.specs.Pour.{news, fewTest, roomTest, accept}
 use Rattle.table.specs.Reading.{Reading, parsed, refusal, entered}
 
 -- "Dimension d: 1 to 5. Fineness S: 1 to 64. Capacity C: 1 to 8,192 points."
 unfoldable pub ranged : Settings → Bool
 ranged c = leb 1 (c .d) && leb (c .d) most-d && (leb 1 (c .S) && leb (c .S) most-S) && (leb 1 (c .C) && leb (c .C) most-C)
 
--- "keys (d·C …), sums (2·C …), index (2·C …)": of slices of k, s and i numbers,
+-- "keys (d·C …), sums (2·C …), index (2·C …)": whether slices of k, s and i numbers have these lengths
 abbrev pub fitsBy : ℕ → ℕ → ℕ → ℕ → ℕ → Bool
 fitsBy d C k s i = eqb k (d * C) && eqb s (2 * C) && eqb i (2 * C)
 
--- and of a table's.
+-- whether the slices of a table have the lengths that its settings give
 unfoldable pub fits : Settings → Table → Bool
 fits c t = fitsBy (c .d) (c .C) (length (t .keys)) (length (t .sums)) (length (t .index))
 
@@ -46,7 +46,7 @@ pub record Outcome : Type 0 where
   pub number : ℕ
   pub table : Table
 
--- with one reading more before it
+-- the outcome of a list with one reading more at its front, which is taken
 abbrev pub oneMore : Outcome → Outcome
 oneMore o = record { taken = suc (o .taken); number = o .number; table = o .table }
 
@@ -67,19 +67,28 @@ enterRefusal c t l = callRefusal c t (eqb (length l % (c .d + 2)) 0)
 unfoldable pub enter : Settings → Table → List ℤ → Outcome
 enter c t l = elim (enterRefusal c t l) [ zero ↦ enterAll c t (parsed (c .d) l) | suc x ↦ record { taken = 0; number = suc x; table = t } ]
 
--- merge of the source s, of settings b, into the target t. "Order: 1, 2, 3, for each the target before the source; 9, 7, 8."
-unfoldable pub mergeRefusal : Settings → Table → Settings → Table → ℕ
-mergeRefusal c t b s = first (
+-- what merge tests of the target t and of the source s, of settings b: "1, 2, 3, for each the target before the source"
+abbrev pub eachTests : Settings → Table → Settings → Table → Tests
+eachTests c t b s =
     (ranged c, settings-out-of-range)
     ∷ (ranged b, settings-out-of-range)
     ∷ (fits c t, other-length)
     ∷ (fits b s, other-length)
     ∷ (sound c t, not-sound)
     ∷ (sound b s, not-sound)
-    ∷ (eqb (c .d) (b .d) && eqb (c .S) (b .S), settings-differ)
-    ∷ (leb (t .n + s .n) most-readings, too-many-readings)
-    ∷ (leb (t .m + news c t (rows b s)) (c .C), too-many-points)
-    ∷ [])
+    ∷ []
+
+-- what merge tests of target and source together, where they have n readings and m points: "9, 7, 8"
+abbrev pub bothTests : Settings → Settings → ℕ → ℕ → Tests
+bothTests c b n m =
+    (eqb (c .d) (b .d) && eqb (c .S) (b .S), settings-differ)
+    ∷ fewTest n
+    ∷ roomTest (c .C) m
+    ∷ []
+
+-- merge of the source s, of settings b, into the target t. "Order: 1, 2, 3, for each the target before the source; 9, 7, 8."
+unfoldable pub mergeRefusal : Settings → Table → Settings → Table → ℕ
+mergeRefusal c t b s = first (eachTests c t b s ++ bothTests c b (t .n + s .n) (t .m + news c t (keysOf (rows b s))))
 
 -- "adds each of its pairs to the target, new points appended in the source's order; readings are added up"
 abbrev pub merged : Settings → Table → Settings → Table → Table

@@ -3,21 +3,23 @@ use mathlib.Core.Path.{_≡_}
 use mathlib.Core.List.{List}
 use Prim.Native.Nat.{ℕ}
 use lib.IntN.{ℤ}
+use denote.Ref.{RefT, now}
+use denote.Triple.Both.{Both}
 use Rattle.table.specs.declared.Head.{Head}
 use Rattle.table.specs.Table.{Settings, Table}
-use Rattle.table.specs.Calls.{Outcome}
+use Rattle.table.specs.Calls.{Outcome, lent}
 
 -- "(d, S, C, number of readings n, number of points m)": the first three
 abbrev pub settings : Head → Settings
 settings h = record { d = h .d; S = h .fineness; C = h .capacity }
 
 -- the table of a head where so many points are stored
-abbrev pub stored : Head → ℕ → List ℤ → List ℤ → List ℕ → Table
-stored h m keys sums index = record { n = h .readings; m = m; keys = keys; sums = sums; index = index }
+abbrev pub tableWith : Head → ℕ → List ℤ → List ℤ → List ℕ → Table
+tableWith h m keys sums index = record { n = h .readings; m = m; keys = keys; sums = sums; index = index }
 
--- and with as many as the head says
+-- the table of a head, with as many points as it says
 abbrev pub table : Head → List ℤ → List ℤ → List ℕ → Table
-table h keys sums index = stored h (h .points) keys sums index
+table h keys sums index = tableWith h (h .points) keys sums index
 
 -- the head of a table
 abbrev pub headOf : Settings → Table → Head
@@ -42,3 +44,31 @@ pub record Answers (c : Settings) (x : ℕ) (t : Table) (number : ℕ) (head : H
 pub record Enters (c : Settings) (o : Outcome) (taken number : ℕ) (head : Head) (keys sums : List ℤ) (index : List ℕ) : Type 0 where
   pub taken-is : taken ≡ o .taken
   pub answers : Answers c (o .number) (o .table) number head keys sums index
+
+-- a slice that is lent to a call, as it is before the call and after it
+abbrev pub Slice : Type 0 → Type 0
+Slice A = Both (RefT (List A)) (RefT (List A))
+
+-- what a fresh call is lent, in three such slices
+abbrev pub lentIn : Slice ℤ → Slice ℤ → Slice ℕ → Table
+lentIn keys sums index = lent (now (keys .entry)) (now (sums .entry)) (now (index .entry))
+
+-- the table that a call finds in three slices, of a head where so many points are stored
+abbrev pub tableWithIn : Head → ℕ → Slice ℤ → Slice ℤ → Slice ℕ → Table
+tableWithIn h m keys sums index = tableWith h m (now (keys .entry)) (now (sums .entry)) (now (index .entry))
+
+-- the table that a call finds in three slices, with as many points as its head says
+abbrev pub tableIn : Head → Slice ℤ → Slice ℤ → Slice ℕ → Table
+tableIn h keys sums index = tableWithIn h (h .points) keys sums index
+
+-- `Holds` of what is left in three slices
+abbrev pub HoldsIn : Table → ℕ → Slice ℤ → Slice ℤ → Slice ℕ → Type 0
+HoldsIn t points keys sums index = Holds t points (now (keys .exit)) (now (sums .exit)) (now (index .exit))
+
+-- `Answers` of what is left in three slices
+abbrev pub AnswersIn : Settings → ℕ → Table → ℕ → Head → Slice ℤ → Slice ℤ → Slice ℕ → Type 0
+AnswersIn c x t number head keys sums index = Answers c x t number head (now (keys .exit)) (now (sums .exit)) (now (index .exit))
+
+-- `Enters` of what is left in three slices
+abbrev pub EntersIn : Settings → Outcome → ℕ → ℕ → Head → Slice ℤ → Slice ℤ → Slice ℕ → Type 0
+EntersIn c o taken number head keys sums index = Enters c o taken number head (now (keys .exit)) (now (sums .exit)) (now (index .exit))

@@ -1,12 +1,16 @@
 -- Adding pairs to points, which is what entering a reading and merging a table do: "A point not yet stored is appended after the last,
 -- starting from 0."
-use mathlib.Core.Bool.{cond}
+use mathlib.Core.Bool.{Bool, cond}
 use mathlib.Core.List.{List, [], _∷_}
 use Prim.Native.Nat.{ℕ, zero, suc, _+_, _*_}
-use lib.Dec.{eqb}
+use lib.Dec.{eqb, leb}
 use lib.IntN.{ℤ, _+ℤ_}
 use lib.ListN.{set}
 use Rattle.whole.specs.Lists.{splice}
+use Rattle.lattice.specs.Limits.{most-readings}
+use Rattle.lattice.specs.Refusals.{too-many-readings, too-many-points}
+use Rattle.index.specs.Keys.{keyAt}
+use Rattle.index.specs.Search.{entryAt, search}
 use Rattle.table.specs.Table.{Settings, Table, Row, mass, value, seek, found}
 
 -- the sums with w and v as mass and value sum of point i
@@ -33,7 +37,7 @@ raise t i r = record {
   index = t .index;
 }
 
--- which of the two, by what the search for the key found
+-- a row added, by what the search for its key found: appended where that is 0, else more at the point found
 abbrev pub addAt : Settings → Table → Row → ℕ → Table
 addAt c t r zero = append c t (seek c t (r .key)) r
 addAt c t r (suc i) = raise t i r
@@ -46,10 +50,26 @@ unfoldable pub pour : Settings → Table → List Row → Table
 pour c t [] = t
 pour c t (r ∷ rs) = pour c (add c t r) rs
 
--- how many are not yet stored: "Only the points that are new count."
-unfoldable pub news : Settings → Table → List Row → ℕ
-news c t [] = 0
-news c t (r ∷ rs) = cond (eqb (found c t (r .key)) 0) 1 0 + news c t rs
+-- "Only the points that are new count.": 1 where the search for a key in these lent keys and this lent index ends at an empty place, else 0
+abbrev pub oneIfNew : Settings → List ℤ → List ℕ → List ℤ → ℕ
+oneIfNew c keys index k = cond (eqb (entryAt index (search (c .C) (keyAt (c .d) keys) (entryAt index) k)) 0) 1 0
+
+-- how many keys of a list are new to these lent keys and this lent index
+unfoldable pub newsIn : Settings → List ℤ → List ℕ → List (List ℤ) → ℕ
+newsIn c keys index [] = 0
+newsIn c keys index (k ∷ ks) = oneIfNew c keys index k + newsIn c keys index ks
+
+-- how many keys of a list are new to a table: its sums do not matter
+abbrev pub news : Settings → Table → List (List ℤ) → ℕ
+news c t ks = newsIn c (t .keys) (t .index) ks
+
+-- "7: more than 4,096 readings would be held": where n would be
+abbrev pub fewTest : ℕ → Bool × ℕ
+fewTest n = (leb n most-readings, too-many-readings)
+
+-- "8: more than C points would be stored": where m would be
+abbrev pub roomTest : ℕ → ℕ → Bool × ℕ
+roomTest C m = (leb m C, too-many-points)
 
 -- k readings more
 abbrev pub counted : ℕ → Table → Table

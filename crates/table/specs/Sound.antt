@@ -19,24 +19,24 @@ use Rattle.index.specs.Indexed.{sparse, finding, Indexed}
 use Rattle.table.specs.Table.{Settings, Table, Row, key, mass, row, whole, entry}
 
 -- z is from -b to b
-abbrev pub within : ℤ → ℤ → Bool
-within b z = leZ (negℤ b) z && leZ z b
+abbrev pub withinPlusMinus : ℤ → ℤ → Bool
+withinPlusMinus b z = leZ (negℤ b) z && leZ z b
 
--- "each key has one common remainder",
+-- "each key has one common remainder"
 abbrev pub oneRemainder : ℕ → List ℤ → Bool
 oneRemainder d y = all (suc d) (λ j. eqb (remainder (at y j) (suc d)) (remainderOf d (at y)))
 
--- "and all d+1 coordinates are within ±1,000,005";
+-- "all d+1 coordinates are within ±1,000,005"
 abbrev pub allReached : ℕ → List ℤ → Bool
 allReached d y = all (suc d) (λ j. leb (natAbs (at y j)) farthest-point)
 
--- both, of the whole point that a key stands for
+-- what is asked of a key: "one common remainder" and coordinates within ±1,000,005, of the whole point that it stands for
 unfoldable pub goodKey : ℕ → List ℤ → Bool
 goodKey d k = oneRemainder d (whole k) && allReached d (whole k)
 
 -- "each mass is at least 1; each value sum is within ±1,000,000 times its mass";
 unfoldable pub goodPair : ℤ → ℤ → Bool
-goodPair m v = leZ (pos 1) m && within (pos most-value *ℤ m) v
+goodPair m v = leZ (pos 1) m && withinPlusMinus (pos most-value *ℤ m) v
 
 -- what is asked of each stored point
 abbrev pub good : ℕ → Row → Bool
@@ -45,13 +45,13 @@ good d r = goodKey d (r .key) && goodPair (r .mass) (r .value)
 -- "m is at most C and n at most 4,096; every index entry is 0 to m and exactly m are not 0; searching for each of the m keys finds that
 -- same point";
 unfoldable pub indexed : Settings → Table → Bool
-indexed c t = leb (t .m) (c .C) && leb (t .n) most-readings && (sparse (c .C) (t .m) (entry t) && finding (c .C) (t .m) (key c t) (entry t))
+indexed c t = leb (t .m) (c .C) && leb (t .n) most-readings && (sparse (2 * c .C) (t .m) (entry t) && finding (c .C) (t .m) (key c t) (entry t))
 
--- and "the masses sum to W·n."
+-- all of soundness: the index, each stored point, and "the masses sum to W·n."
 unfoldable pub sound : Settings → Table → Bool
 sound c t = indexed c t && (all (t .m) (λ i. good (c .d) (row c t i)) && eqZ (sum (t .m) (mass t)) (pos (W (c .d) (c .S) * t .n)))
 
--- The same as facts: a stored point
+-- What `good` tests, as facts: a stored point.
 pub record Good (d : ℕ) (r : Row) : Type 0 where
   pub size : length (r .key) ≡ d
   pub point : Point d (whole (r .key))
@@ -60,7 +60,7 @@ pub record Good (d : ℕ) (r : Row) : Type 0 where
   pub low : negℤ (pos most-value *ℤ r .mass) ≤ℤ r .value
   pub high : r .value ≤ℤ (pos most-value *ℤ r .mass)
 
--- and a table of them.
+-- What `sound` tests, as facts: a sound table.
 pub record Sound (c : Settings) (t : Table) : Type 0 where
   pub indexed : Indexed (c .C) (t .m) (key c t) (entry t)
   pub few : t .n ≤ most-readings
@@ -82,7 +82,7 @@ pub record Shape (c : Settings) (t : Table) : Type 0 where
   pub sums : length (t .sums) ≡ 2 * c .C
   pub index : length (t .index) ≡ 2 * c .C
 
--- Settings in range, lengths, and soundness: a table that a call which is not refused as a whole finds and leaves.
+-- Settings in range, lengths, and soundness: a table that is itself no reason for 1, 2 or 3; what else a call is lent may be.
 pub record Fine (c : Settings) (t : Table) : Type 0 where
   pub ranged : Ranged c
   pub shape : Shape c t

@@ -1,6 +1,6 @@
 -- A table: "a head by value (d, S, C, number of readings n, number of points m) and three lent slices". The settings stand apart from
 -- the rest, since no call changes them.
-use mathlib.Core.List.{List, _++_, [], _∷_}
+use mathlib.Core.List.{List, _++_, [], _∷_, map}
 use Prim.Native.Nat.{ℕ, zero, suc, _+_, _*_}
 use lib.IntN.{ℤ, pos, negℤ}
 use Rattle.whole.specs.Sum.{over}
@@ -52,6 +52,10 @@ rows c t = tab (t .m) (row c t)
 abbrev pub massOf : Row → ℤ
 massOf r = r .mass
 
+-- the keys of rows
+abbrev pub keysOf : List Row → List (List ℤ)
+keysOf rs = map (λ (r : Row). r .key) rs
+
 -- "Only the first d coordinates are kept; the last is minus their sum."
 unfoldable pub whole : List ℤ → List ℤ
 whole k = k ++ (negℤ (over k (λ z. z)) ∷ [])
@@ -64,7 +68,7 @@ entry t p = entryAt (t .index) p
 abbrev pub seek : Settings → Table → List ℤ → ℕ
 seek c t k = search (c .C) (key c t) (entry t) k
 
--- what stands there: 0, or i + 1 where point i is the one sought
+-- what stands where the search for a key ends: 0, or i + 1 where point i is the one sought
 abbrev pub found : Settings → Table → List ℤ → ℕ
 found c t k = entry t (seek c t k)
 

@@ -13,40 +13,34 @@ use Rattle.lattice.specs.Limits.{most-value, most-readings, most-W}
 use Rattle.lattice.specs.Lattice.{Point}
 use Rattle.lattice.specs.Weight.{weight}
 use Rattle.table.specs.Table.{Settings, Table, key, mass, value, entry, found, held}
-use Rattle.table.specs.Sound.{sound}
+use Rattle.table.specs.Sound.{Fine}
 use Rattle.table.specs.Reading.{Reading, refusal, entered}
-use Rattle.table.specs.Calls.{ranged, fits, fresh, enterRefusal, enter, merged, mergeRefusal}
-
--- settings in range, slices of their lengths, and soundness: a table for which no call is refused with 1, 2 or 3
-pub record Usable (c : Settings) (t : Table) : Type 0 where
-  pub in-range : T (ranged c)
-  pub lengths : T (fits c t)
-  pub is-sound : T (sound c t)
+use Rattle.table.specs.Calls.{ranged, fresh, enterRefusal, enter, merged, mergeRefusal}
 
 -- in a sound table searching for a key finds exactly the point that has it
 abbrev pub SearchFinds : Type 0
-SearchFinds = (c : Settings) (t : Table) → Usable c t → (k : List ℤ) (i : ℕ) → (found c t k ≡ suc i) ↔ ((i < t .m) × (key c t i ≡ k))
+SearchFinds = (c : Settings) (t : Table) → Fine c t → (k : List ℤ) (i : ℕ) → (found c t k ≡ suc i) ↔ ((i < t .m) × (key c t i ≡ k))
 
 -- an empty place exists
 abbrev pub EmptyFound : Type 0
-EmptyFound = (c : Settings) (t : Table) → Usable c t → (p : ℕ) × (p < 2 * c .C) × (entry t p ≡ 0)
+EmptyFound = (c : Settings) (t : Table) → Fine c t → (p : ℕ) × (p < 2 * c .C) × (entry t p ≡ 0)
 
--- soundness is kept: a fresh table has it,
+-- soundness is kept: a fresh table has it
 abbrev pub FreshSound : Type 0
-FreshSound = (c : Settings) → T (ranged c) → Usable c (fresh c)
+FreshSound = (c : Settings) → T (ranged c) → Fine c (fresh c)
 
--- each accepted reading, of d+1 coordinates as those of a list are, keeps it,
+-- soundness is kept: each accepted reading keeps it, of d+1 coordinates as those of a list are
 abbrev pub EnterKeeps : Type 0
-EnterKeeps = (c : Settings) (t : Table) (r : Reading) → length (r .position) ≡ suc (c .d) → Usable c t → refusal c t r ≡ 0 → Usable c (entered c t r)
+EnterKeeps = (c : Settings) (t : Table) (r : Reading) → length (r .position) ≡ suc (c .d) → Fine c t → refusal c t r ≡ 0 → Fine c (entered c t r)
 
--- and so does a whole call of enter, which counts the readings that it took,
+-- soundness is kept: a whole call of enter keeps it, and counts the readings that it took
 abbrev pub EnterLeaves : Type 0
 EnterLeaves = (c : Settings) (t : Table) (l : List ℤ) → enterRefusal c t l ≡ 0
-    → Usable c ((enter c t l) .table) × ((enter c t l) .table .n ≡ t .n + (enter c t l) .taken)
+    → Fine c ((enter c t l) .table) × ((enter c t l) .table .n ≡ t .n + (enter c t l) .taken)
 
--- and a merge.
+-- soundness is kept: a merge keeps it
 abbrev pub MergeKeeps : Type 0
-MergeKeeps = (c : Settings) (t : Table) (b : Settings) (s : Table) → mergeRefusal c t b s ≡ 0 → Usable c (merged c t b s)
+MergeKeeps = (c : Settings) (t : Table) (b : Settings) (s : Table) → mergeRefusal c t b s ≡ 0 → Fine c (merged c t b s)
 
 -- two pairs added
 abbrev pub plus : ℤ × ℤ → ℤ × ℤ → ℤ × ℤ
@@ -58,7 +52,7 @@ FreshHolds = (c : Settings) → T (ranged c) → (k : List ℤ) → held c (fres
 
 -- "To enter a reading (x, v)": at every lattice point the map after is the map before plus (weight, weight·v)
 abbrev pub EnterAdds : Type 0
-EnterAdds = (c : Settings) (t : Table) (r : Reading) → length (r .position) ≡ suc (c .d) → Usable c t → refusal c t r ≡ 0 → (y : List ℤ) → Point (c .d) y
+EnterAdds = (c : Settings) (t : Table) (r : Reading) → length (r .position) ≡ suc (c .d) → Fine c t → refusal c t r ≡ 0 → (y : List ℤ) → Point (c .d) y
     → held c (entered c t r) (take (c .d) y)
     ≡ plus (held c t (take (c .d) y)) (let w = pos (weight (c .d) (c .S) (at (r .position)) (at y)) in (w, w *ℤ r .value))
 
@@ -69,7 +63,7 @@ MergeAdds = (c : Settings) (t : Table) (b : Settings) (s : Table) → mergeRefus
 
 -- a point is stored exactly when its mass is above 0
 abbrev pub StoredExactly : Type 0
-StoredExactly = (c : Settings) (t : Table) → Usable c t → (k : List ℤ) → (0 < found c t k) ↔ (pos 1 ≤ℤ held c t k .0)
+StoredExactly = (c : Settings) (t : Table) → Fine c t → (k : List ℤ) → (0 < found c t k) ↔ (pos 1 ≤ℤ held c t k .0)
 
 -- "These limits keep every sum in 64 bits": no mass passes 384·4,096, and no value sum a million times that
 pub record Small (t : Table) (i : ℕ) : Type 0 where
@@ -77,4 +71,4 @@ pub record Small (t : Table) (i : ℕ) : Type 0 where
   pub value-small : Abs≤ (value t i) (most-value * (most-W * most-readings))
 
 abbrev pub SumsSmall : Type 0
-SumsSmall = (c : Settings) (t : Table) → Usable c t → (i : ℕ) → i < t .m → Small t i
+SumsSmall = (c : Settings) (t : Table) → Fine c t → (i : ℕ) → i < t .m → Small t i

@@ -25,7 +25,7 @@ bothReadings = pos 3 ∷ negsuc 2 ∷ pos 10 ∷ pos 2 ∷ negsuc 1 ∷ pos 4 �
 abbrev pub logTable : Table
 logTable = (afterLog 8 bothReadings) .table
 
--- the same with other sums
+-- the table of the worked log with other sums
 abbrev pub spoilt : List ℤ → Table
 spoilt sums = record { n = logTable .n; m = logTable .m; keys = logTable .keys; sums = sums; index = logTable .index }
 

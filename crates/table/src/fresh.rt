@@ -3,8 +3,8 @@ ghost use mathlib.Core.Path.{_≡_};
 ghost use lib.IntN.{pos};
 ghost use lib.ListN.{length, replicate};
 ghost use Rattle.table.specs.Table.{Settings};
-ghost use Rattle.table.specs.Calls.{lent, freshRefusal, afterFresh};
-ghost use Rattle.table.specs.Heads.{Answers};
+ghost use Rattle.table.specs.Calls.{freshRefusal, afterFresh};
+ghost use Rattle.table.specs.Heads.{lentIn, AnswersIn};
 use crate::Answer;
 use crate::Head;
 use crate::settings::in_range;
@@ -52,8 +52,8 @@ pub fn fresh(
 ) -> Answer
     ensures { λ r. ⌜
         (let c : Settings = record { d = d; S = fineness; C = capacity } in
-        let t = lent (now (keys .entry)) (now (sums .entry)) (now (index .entry)) in
-        Answers c (freshRefusal c t) (afterFresh c t) (r .number) (r .head) (now (keys .exit)) (now (sums .exit)) (now (index .exit)))
+        let t = lentIn keys sums index in
+        AnswersIn c (freshRefusal c t) (afterFresh c t) (r .number) (r .head) keys sums index)
         ⌝ }
 {
     let head = Head {

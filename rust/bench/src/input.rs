@@ -100,13 +100,7 @@ impl Memory {
     /// A fresh table.
     pub fn fresh(d: usize, fineness: u32, capacity: usize) -> Memory {
         Memory {
-            head: Head {
-                d,
-                fineness,
-                capacity,
-                readings: 0,
-                points: 0,
-            },
+            head: Head::new(d, fineness, capacity),
             keys: vec![0; d * capacity],
             sums: vec![0; 2 * capacity],
             index: vec![0; 2 * capacity],

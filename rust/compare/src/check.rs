@@ -87,19 +87,12 @@ impl Differences {
 }
 
 fn theirs(head: Head) -> independent::Head {
-    let Head {
-        d,
-        fineness,
-        capacity,
-        readings,
-        points,
-    } = head;
     independent::Head {
-        d,
-        fineness,
-        capacity,
-        readings,
-        points,
+        d: head.d,
+        fineness: head.fineness,
+        capacity: head.capacity,
+        readings: head.readings,
+        points: head.points,
     }
 }
 
@@ -111,13 +104,7 @@ fn ours(head: independent::Head) -> Head {
         readings,
         points,
     } = head;
-    Head {
-        d,
-        fineness,
-        capacity,
-        readings,
-        points,
-    }
+    Head::new(d, fineness, capacity).with_counts(readings, points)
 }
 
 /// The bytes of a log in hexadecimal.

@@ -2,6 +2,7 @@
 //! fixed seeds. Without arguments it runs every family and ends with the verdict; with a family's name, and a case's
 //! number, it runs that alone.
 
+mod case;
 mod check;
 mod coverage;
 mod damage;
@@ -13,8 +14,9 @@ mod random;
 mod table;
 mod tally;
 
+use case::Case;
 use check::Check;
-use families::{Case, Family};
+use families::Family;
 use random::Random;
 use std::process::ExitCode;
 use tally::Tally;

@@ -34,13 +34,7 @@ impl Table {
     /// Slices of the right lengths for the settings, full of random numbers, with a head of no readings or points.
     pub fn lent(random: &mut Random, d: usize, fineness: u32, capacity: usize) -> Table {
         Table {
-            head: Head {
-                d,
-                fineness,
-                capacity,
-                readings: 0,
-                points: 0,
-            },
+            head: Head::new(d, fineness, capacity),
             keys: (0..d * capacity).map(|_| random.bits() as i32).collect(),
             sums: (0..2 * capacity).map(|_| random.bits() as i64).collect(),
             index: (0..2 * capacity).map(|_| random.bits() as u16).collect(),
@@ -168,6 +162,15 @@ impl Table {
             0 => change_length(random, &mut self.keys),
             1 => change_length(random, &mut self.sums),
             _ => change_length(random, &mut self.index),
+        }
+    }
+
+    /// Puts one of d, S and C out of range.
+    pub fn change_a_setting(&mut self, random: &mut Random) {
+        match random.below(3) {
+            0 => self.head.d = random.pick(&[0, 6, 7, usize::MAX, 1 << 32, (1 << 32) + 1]),
+            1 => self.head.fineness = random.pick(&[0, 65, u32::MAX, 256, 257]),
+            _ => self.head.capacity = random.pick(&[0, 8_193, 65_536, 1 << 63, usize::MAX, (1 << 32) + 1]),
         }
     }
 }

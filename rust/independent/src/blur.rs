@@ -1,10 +1,10 @@
 //! The blur and the answer, both by definition over the sorted map. A pass makes a whole new map from the old one, so
 //! that no pair of the pass can be read after it was changed.
 
+use crate::points::{Point, Points};
 use crate::position::{position_judged, with_last_coordinate};
 use crate::refusal;
 use crate::rounding::rounded_quotient;
-use crate::store::{Point, Points};
 use crate::weights::{near, weight};
 
 /// A table's points after the passes 0 to d.
@@ -101,18 +101,21 @@ fn doubled_plus(point: &Point, neighbours: [Option<&Point>; 2]) -> Point {
 #[cfg(test)]
 mod tests {
     use super::*;
-    use crate::store::Store;
 
-    fn worked_store() -> Store {
-        let mut store = Store::new(1, 2);
-        store.add(&[3, -3], 10);
-        store.add(&[2, -2], 4);
-        store
+    /// The worked log's points, blurred: (1, -1) with mass 6 and value sum 36, and (2, -2) with 2 and 20.
+    fn worked() -> Blurred {
+        let point = |number, mass, value_sum| Point {
+            number,
+            mass,
+            value_sum,
+        };
+        let stored = Points::from([(vec![1], point(1, 6, 36)), (vec![2], point(0, 2, 20))]);
+        Blurred::new(1, 2, &stored)
     }
 
     #[test]
     fn the_small_numbers_of_the_worked_log() {
-        let blurred = worked_store().blurred();
+        let blurred = worked();
         let pairs: Vec<_> = blurred.points().map(|point| (point.mass, point.value_sum)).collect();
         assert_eq!(pairs, [(38, 260), (34, 244)]);
         assert_eq!(blurred.fraction(&[3, -3]), Some((144, 1008)));
@@ -121,13 +124,15 @@ mod tests {
 
     #[test]
     fn a_query_far_from_all_points_has_no_weight() {
-        assert_eq!(worked_store().answers(&[100, -100, 4, -4]), [(0, 10), (7, 0)]);
-        assert_eq!(Store::new(1, 2).answers(&[0, 0]), [(0, 10)]);
+        assert_eq!(worked().answer(&[100, -100]), (0, 10));
+        assert_eq!(worked().answer(&[4, -4]), (7, 0));
+        assert_eq!(Blurred::new(1, 2, &Points::new()).answer(&[0, 0]), (0, 10));
     }
 
     #[test]
     fn a_bad_query_is_refused_for_its_position() {
-        assert_eq!(worked_store().answers(&[1_000_001, 0, 5, -4]), [(0, 4), (0, 5)]);
+        assert_eq!(worked().answer(&[1_000_001, 0]), (0, 4));
+        assert_eq!(worked().answer(&[5, -4]), (0, 5));
     }
 
     #[test]

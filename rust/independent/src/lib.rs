@@ -12,6 +12,7 @@ mod blur;
 mod calls;
 mod loading;
 mod log;
+mod points;
 mod position;
 mod refusal;
 mod report;

@@ -79,7 +79,6 @@ fn masses_add_up(head: &Head, lent: &Lent) -> bool {
 #[cfg(test)]
 mod tests {
     use super::*;
-    use crate::calls::{enter, fresh};
     use crate::search::home_place;
 
     /// The worked log's table: d = 1, S = 2, C = 8, points 2 and 1, masses 2 and 6.
@@ -94,11 +93,19 @@ mod tests {
     impl Worked {
         fn new() -> Worked {
             let (mut keys, mut sums, mut index) = (vec![0; 8], vec![0; 16], vec![0; 16]);
-            let head = fresh(1, 2, 8, &mut keys, &mut sums, &mut index).head;
-            let entered = enter(head, &mut keys, &mut sums, &mut index, &[3, -3, 10, 2, -2, 4]);
-            assert_eq!((entered.taken, entered.head.points), (2, 2));
+            keys[..2].copy_from_slice(&[2, 1]);
+            sums[..4].copy_from_slice(&[2, 20, 6, 36]);
+            // The home of key 2 is 6, and of key 1 it is 3.
+            (index[6], index[3]) = (1, 2);
+            let head = Head {
+                d: 1,
+                fineness: 2,
+                capacity: 8,
+                readings: 2,
+                points: 2,
+            };
             Worked {
-                head: entered.head,
+                head,
                 keys,
                 sums,
                 index,
@@ -122,7 +129,7 @@ mod tests {
     }
 
     #[test]
-    fn an_entered_table_is_sound_whatever_stands_past_its_points() {
+    fn the_worked_table_is_sound_whatever_stands_past_its_points() {
         let mut worked = Worked::new();
         assert_eq!(worked.judged(), Ok(()));
         worked.keys[2..].fill(i32::MIN);

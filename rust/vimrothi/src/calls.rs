@@ -4,17 +4,17 @@
 //! A table here is a [`Head`] by value and three lent slices: keys (d·C numbers), sums (2·C: mass, then value sum) and
 //! index (2·C). Numbers are tested in the order in which each call names them, and the first that is met is answered.
 //! A call refused as a whole hands back the head that it was given and changes no lent memory.
-//! [`words`](crate::words) has the words of each number.
+//! [`numbers`](crate::numbers) has the names of the numbers, and [`words`](crate::words) the words of each.
 //!
 //! ```
-//! use vimrothi::calls;
+//! use vimrothi::{calls, numbers};
 //!
 //! let (mut keys, mut sums, mut index) = ([0; 8], [0; 16], [0; 16]);
 //! let made = calls::fresh(1, 2, 8, &mut keys, &mut sums, &mut index);
-//! assert_eq!(made.number, 0);
+//! assert_eq!(made.number, numbers::DONE);
 //!
 //! let entered = calls::enter(made.head, &mut keys, &mut sums, &mut index, &[3, -3, 10, 2, -2, 4]);
-//! assert_eq!((entered.taken, entered.number), (2, 0));
+//! assert_eq!((entered.taken, entered.number), (2, numbers::DONE));
 //! assert_eq!(entered.head.points, 2);
 //! // Points are stored in the order in which they were met: here (2, -2), which leaves 0, before (1, -1).
 //! assert_eq!(keys[..2], [2, 1]);
@@ -29,8 +29,17 @@
 
 use crate::declared;
 
-/// A table's head: the settings, and the numbers of readings and of points.
+/// A table's head: the settings, and the numbers of readings and of points. Settings to come will be fields of it, so
+/// it is made by [`new`](Head::new) and [`with_counts`](Head::with_counts). A call takes a head of any numbers.
+///
+/// ```
+/// use vimrothi::Head;
+///
+/// let head = Head::new(1, 2, 8).with_counts(2, 3);
+/// assert_eq!((head.d, head.fineness, head.capacity, head.readings, head.points), (1, 2, 8, 2, 3));
+/// ```
 #[derive(Clone, Copy, Debug, Default, PartialEq, Eq)]
+#[non_exhaustive]
 pub struct Head {
     /// d, 1 to 5.
     pub d: usize,
@@ -42,6 +51,28 @@ pub struct Head {
     pub readings: usize,
     /// m, at most C.
     pub points: usize,
+}
+
+impl Head {
+    /// The head of a table without readings: dimension d, fineness S and capacity C.
+    pub fn new(d: usize, fineness: u32, capacity: usize) -> Head {
+        Head {
+            d,
+            fineness,
+            capacity,
+            readings: 0,
+            points: 0,
+        }
+    }
+
+    /// The head of the same settings with these numbers of readings and of points.
+    pub fn with_counts(self, readings: usize, points: usize) -> Head {
+        Head {
+            readings,
+            points,
+            ..self
+        }
+    }
 }
 
 /// A number, 0 where the call was done, and the head that is handed back.
@@ -87,13 +118,7 @@ pub fn fresh(
     sums: &mut [i64],
     index: &mut [u16],
 ) -> Answer {
-    let mut head = Head {
-        d,
-        fineness,
-        capacity,
-        readings: 0,
-        points: 0,
-    };
+    let mut head = Head::new(d, fineness, capacity);
     // SAFETY: pointers and lengths of the slices lent to this function, and of its own `head`.
     let number = unsafe {
         declared::vimrothi_fresh(

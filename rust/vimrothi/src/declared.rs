@@ -1,5 +1,5 @@
 //! The declarations of `crates/export/src/lib.rt`, one for one. A slice there is a pointer and a length
-//! here. Nothing checks these against the Rattle source but the comparison in `rust/compare`.
+//! here. `tests/declarations.rs` holds them to the Rattle source, and the comparison in `rust/compare` runs them.
 
 extern "C" {
     pub fn vimrothi_fresh(

@@ -2,7 +2,8 @@
 //! static library that is proved in Rattle; this crate puts memory of its own and Rust's error types around it.
 //!
 //! - [`Table`] owns its memory: readings are entered, tables merged, points listed, queries answered.
-//! - [`Refusal`] is the one error type: document 01's number, its words, and the place that was refused.
+//! - [`Refusal`] is the one error type: document 01's number, its words, and the place that was refused. [`numbers`]
+//!   has the names of the numbers, and [`words()`] the words of each.
 //! - [`report()`] is what the program `dyemap` prints for a log.
 //! - [`calls`] has document 01's calls over lent slices, for those who keep memory of their own.
 //!
@@ -58,7 +59,8 @@
 //! # Ok::<(), Refusal>(())
 //! ```
 //!
-//! The library is compiled for x86-64 Linux. Run `rt staticlib export` before this crate is built.
+//! The library is compiled for x86-64 Linux. Run `rt staticlib export` before this crate is built; on Arm run
+//! `.ci/library`, which compiles it for the machine.
 
 #![deny(missing_docs)]
 #![deny(unsafe_op_in_unsafe_fn)]
@@ -69,12 +71,14 @@ compile_error!("the static library is compiled for x86-64 Linux");
 pub mod calls;
 mod declared;
 mod loading;
+pub mod numbers;
 mod refusal;
 mod table;
 
 pub use calls::Head;
 pub use loading::LoadRefusal;
-pub use refusal::{words, Place, Refusal};
+pub use numbers::words;
+pub use refusal::{Place, Refusal};
 pub use table::{Point, Table};
 
 /// What `dyemap` prints for a log: the table, its points and the answers to its queries, or one line `REFUSED` with a

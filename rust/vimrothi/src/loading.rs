@@ -5,9 +5,9 @@ use std::error::Error;
 use std::fmt;
 
 use crate::calls;
-use crate::refusal::OTHER_LENGTH;
+use crate::numbers::{DONE, OTHER_LENGTH};
+use crate::refusal::{Place, Refusal};
 use crate::table::{memory, Table};
-use crate::{Place, Refusal};
 
 impl Table {
     /// Loads a log: a fresh table of the log's settings, with the log's readings entered in order.
@@ -46,7 +46,7 @@ impl Table {
         let loaded = calls::load(log, &mut keys, &mut sums, &mut index);
         let table = Table::holding(loaded.head, keys, sums, index);
         match loaded.number {
-            0 => Ok(table),
+            DONE => Ok(table),
             number => Err(LoadRefusal::new(number, loaded.offset, Some(table))),
         }
     }
@@ -70,7 +70,7 @@ impl LoadRefusal {
         LoadRefusal { number, offset, table }
     }
 
-    /// Document 01's number.
+    /// Document 01's number; [`numbers`](crate::numbers) has their names.
     pub fn number(&self) -> u8 {
         self.number
     }

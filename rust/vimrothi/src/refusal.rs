@@ -4,44 +4,11 @@
 use std::error::Error;
 use std::fmt;
 
-/// A lent slice of another length, or a list that isn't whole items.
-pub(crate) const OTHER_LENGTH: u8 = 2;
+use crate::numbers::{words, DONE};
 
-/// Document 01's words for the numbers 1 to 16, in that order.
-const WORDS: [&str; 16] = [
-    "d, S or C out of range",
-    "a lent slice has another length than the settings give, or a list isn't whole items",
-    "the table is not sound",
-    "a coordinate is beyond ±1,000,000",
-    "the coordinates don't sum to 0",
-    "a value is beyond ±1,000,000",
-    "more than 4,096 readings would be held",
-    "more than C points would be stored",
-    "merge: d or S differ",
-    "no stored point has weight above 0 for the query",
-    "one has, but the blurred mass sum is 0",
-    "log: kind byte not listed",
-    "log: settings not first, or met again",
-    "log: item of another dimension than the settings",
-    "log: body cut short",
-    "program: log over 16,384 bytes, or C over 512",
-];
-
-/// Document 01's words for a refusal number, and nothing for a number that it does not have.
-///
-/// It also explains the codes of [`calls`](crate::calls) and the numbers that `dyemap` prints.
-///
-/// ```
-/// assert_eq!(vimrothi::words(15), Some("log: body cut short"));
-/// assert_eq!(vimrothi::words(0), None);
-/// ```
-pub fn words(number: u8) -> Option<&'static str> {
-    let place = usize::from(number).checked_sub(1)?;
-    WORDS.get(place).copied()
-}
-
-/// Where a refusal was met. Readings, queries and bytes are counted from 0.
+/// Where a refusal was met. Readings, queries and bytes are counted from 0. Calls to come may have places of their own.
 #[derive(Clone, Copy, Debug, PartialEq, Eq, Hash)]
+#[non_exhaustive]
 pub enum Place {
     /// The call as a whole. It changed nothing.
     WholeCall,
@@ -56,11 +23,11 @@ pub enum Place {
 /// Why something was refused, and where.
 ///
 /// ```
-/// use vimrothi::{Place, Table};
+/// use vimrothi::{numbers, Place, Table};
 ///
 /// let mut table = Table::fresh(1, 2, 8)?;
 /// let refusal = table.enter(&[3, -3, 10, 5, -4, 10]).unwrap_err();
-/// assert_eq!(refusal.number(), 5);
+/// assert_eq!(refusal.number(), numbers::SUM_NOT_ZERO);
 /// assert_eq!(refusal.place(), Place::Reading(1));
 /// assert_eq!(refusal.to_string(), "refused with 5 at reading 1: the coordinates don't sum to 0");
 /// # Ok::<(), vimrothi::Refusal>(())
@@ -79,12 +46,13 @@ impl Refusal {
     /// The answer of a call as a result: done where its number is 0.
     pub(crate) fn unless_done(number: u8, place: Place) -> Result<(), Refusal> {
         match number {
-            0 => Ok(()),
+            DONE => Ok(()),
             _ => Err(Refusal::new(number, place)),
         }
     }
 
-    /// Document 01's number, 1 to 15. (16 is the program's, and [`report()`](crate::report()) prints it.)
+    /// Document 01's number, 1 to 15; [`numbers`](crate::numbers) has their names. (16 is the program's, and
+    /// [`report()`](crate::report()) prints it.)
     pub fn number(self) -> u8 {
         self.number
     }
@@ -96,7 +64,7 @@ impl Refusal {
 
     /// Document 01's words for the number.
     pub fn words(self) -> &'static str {
-        words(self.number).expect("a call answers with a number of document 01")
+        words(self.number)
     }
 }
 

@@ -4,8 +4,8 @@
 use std::fmt;
 
 use crate::calls::{self, Head};
-use crate::refusal::OTHER_LENGTH;
-use crate::{Place, Refusal};
+use crate::numbers::{DONE, NOT_SOUND, OTHER_LENGTH};
+use crate::refusal::{Place, Refusal};
 
 /// A table of readings: the lattice points with weight above 0 for them, each with its mass and value sum.
 ///
@@ -14,7 +14,8 @@ use crate::{Place, Refusal};
 /// [`into_parts`](Table::into_parts) for the memory itself.
 ///
 /// Each call on a table first tests all of it for soundness, which takes the longer the larger it is. So enter
-/// readings and ask queries as one list where there are many.
+/// readings and ask queries as one list where there are many: [`enter`](Table::enter) and
+/// [`enter_all`](Table::enter_all), [`filter`](Table::filter).
 ///
 /// ```
 /// use vimrothi::Table;
@@ -141,13 +142,44 @@ impl Table {
         self.head = entered.head;
         // 1, 2 and 3 are for the whole call, and what is above them is for a reading.
         let place = match entered.number {
-            0..=3 => Place::WholeCall,
+            DONE..=NOT_SOUND => Place::WholeCall,
             _ => Place::Reading(entered.taken),
         };
         Refusal::unless_done(entered.number, place)
     }
 
-    /// Enters one reading: a value at a position.
+    /// Enters many readings, each a position and its value, in one call: the table is tested once, not once for each.
+    ///
+    /// # Errors
+    ///
+    /// As [`enter`](Table::enter) of them all as one list; 2 for the whole call, and none is taken, where a position has
+    /// not d + 1 coordinates.
+    ///
+    /// ```
+    /// use vimrothi::{numbers, Place, Table};
+    ///
+    /// let mut table = Table::fresh(1, 2, 8)?;
+    /// table.enter_all([([3, -3], 10), ([2, -2], 4)])?;
+    /// assert_eq!(table.answer_at(&[4, -4])?, 7);
+    ///
+    /// // Positions and values that were kept apart.
+    /// let positions = vec![vec![5, -5], vec![5, -4]];
+    /// let refusal = table.enter_all(positions.iter().zip([12, 12])).unwrap_err();
+    /// assert_eq!((refusal.number(), refusal.place()), (numbers::SUM_NOT_ZERO, Place::Reading(1)));
+    /// assert_eq!(table.readings(), 3);
+    /// # Ok::<(), vimrothi::Refusal>(())
+    /// ```
+    pub fn enter_all<P: AsRef<[i32]>>(&mut self, readings: impl IntoIterator<Item = (P, i32)>) -> Result<(), Refusal> {
+        let mut list = Vec::new();
+        for (position, value) in readings {
+            self.one_position(position.as_ref())?;
+            list.extend_from_slice(position.as_ref());
+            list.push(value);
+        }
+        self.enter(&list)
+    }
+
+    /// Enters one reading: a value at a position. [`enter_all`](Table::enter_all) is for many.
     ///
     /// # Errors
     ///
@@ -208,7 +240,7 @@ impl Table {
     pub fn points(&self) -> Vec<Point> {
         let mut list = vec![0; self.head.capacity];
         let number = calls::list(self.head, &self.keys, &self.sums, &self.index, &mut list);
-        assert_eq!(number, 0, "a table that owns its memory is sound");
+        assert_eq!(number, DONE, "a table that owns its memory is sound");
         let listed = &list[..self.head.points];
         listed.iter().map(|&point| self.point(usize::from(point))).collect()
     }

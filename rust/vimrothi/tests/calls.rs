@@ -59,17 +59,11 @@ impl Lent {
 fn a_fresh_table_is_all_0_and_a_refused_one_changes_nothing() {
     let mut lent = Lent::filled();
     let refused = calls::fresh(1, 2, 9, &mut lent.keys, &mut lent.sums, &mut lent.index);
-    let given = Head {
-        d: 1,
-        fineness: 2,
-        capacity: 9,
-        ..Head::default()
-    };
-    assert_eq!((refused.number, refused.head), (2, given));
+    assert_eq!((refused.number, refused.head), (2, Head::new(1, 2, 9)));
     assert_eq!(lent, Lent::filled());
 
     let made = calls::fresh(1, 2, 8, &mut lent.keys, &mut lent.sums, &mut lent.index);
-    assert_eq!((made.number, made.head), (0, Head { capacity: 8, ..given }));
+    assert_eq!((made.number, made.head), (0, Head::new(1, 2, 8)));
     assert_eq!(
         (lent.keys, lent.sums, lent.index),
         (vec![0; 8], vec![0; 16], vec![0; 16])

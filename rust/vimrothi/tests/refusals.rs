@@ -1,16 +1,17 @@
 //! Every kind of refusal, met through the safe crate: its number, its place and what it says. 11 is never met on a
 //! sound table, and 16 is only printed, so of these two the words are tested.
 
+use std::collections::HashSet;
 use std::error::Error;
 
-use vimrothi::{report, words, Head, LoadRefusal, Place, Refusal, Table};
+use vimrothi::{numbers, report, words, Head, LoadRefusal, Place, Refusal, Table};
 
 /// Tests a refusal against a number, a place and the words that it is shown with.
 fn met<T: std::fmt::Debug>(refused: Result<T, Refusal>, number: u8, place: Place, shown: &str) {
     let refusal = refused.unwrap_err();
     assert_eq!((refusal.number(), refusal.place()), (number, place));
     assert_eq!(refusal.to_string(), shown);
-    assert_eq!(Some(refusal.words()), words(number));
+    assert_eq!(refusal.words(), words(number));
 }
 
 /// A table of dimension 1 and fineness 2.
@@ -64,7 +65,8 @@ fn parts_are_refused_with_1_2_and_3() {
     let again = |head: Head, sums: Vec<i64>| Table::from_parts(head, keys.clone(), sums, index.clone());
     assert_eq!(again(head, sums.clone()).unwrap().head(), head);
 
-    let wild = Head { d: usize::MAX, ..head };
+    let mut wild = head;
+    wild.d = usize::MAX;
     met(
         again(wild, sums.clone()),
         1,
@@ -73,7 +75,7 @@ fn parts_are_refused_with_1_2_and_3() {
     );
     assert_eq!(again(head, sums[1..].to_vec()).unwrap_err().number(), 2);
     let unsound = "refused with 3: the table is not sound";
-    let miscounted = Head { readings: 2, ..head };
+    let miscounted = head.with_counts(2, head.points);
     met(again(miscounted, sums.clone()), 3, Place::WholeCall, unsound);
     met(again(head, vec![i64::MAX; sums.len()]), 3, Place::WholeCall, unsound);
 }
@@ -219,11 +221,37 @@ fn contents_of_a_log_are_refused_with_their_own_numbers() {
 }
 
 #[test]
-fn words_are_there_for_1_to_16_only() {
-    assert!((1..=16).all(|number| words(number).is_some()));
-    assert_eq!((words(0), words(17), words(255)), (None, None, None));
-    assert_eq!(words(11), Some("one has, but the blurred mass sum is 0"));
-    assert_eq!(words(16), Some("program: log over 16,384 bytes, or C over 512"));
+fn many_readings_are_entered_by_one_call() {
+    let mut table = table(8);
+    // Refused as a whole, none is taken, not even those before the one that is no position.
+    let shown = "refused with 2: a lent slice has another length than the settings give, or a list isn't whole items";
+    let ragged = [(&[2, -2][..], 4), (&[2, -2, 0], 4)];
+    met(table.enter_all(ragged), 2, Place::WholeCall, shown);
+    assert_eq!(table.readings(), 0);
+
+    let readings = [([2, -2], 4), ([2, -2], 4), ([5, -4], 4), ([2, -2], 4)];
+    let shown = "refused with 5 at reading 2: the coordinates don't sum to 0";
+    met(table.enter_all(readings), 5, Place::Reading(2), shown);
+    assert_eq!(table.points(), holding(2).points());
+    table.enter_all::<&[i32]>([]).unwrap();
+    assert_eq!(table.readings(), 2);
+}
+
+#[test]
+fn every_number_has_words() {
+    let told: HashSet<&str> = (0..=16).map(words).collect();
+    assert_eq!(told.len(), 17, "each of 0 to 16 has words of its own");
+    assert!(!told.contains(words(17)));
+    assert!((17..=255).all(|number| words(number) == words(17)));
+    assert_eq!(words(numbers::NO_MASS_MET), "one has, but the blurred mass sum is 0");
+    assert_eq!(
+        words(numbers::PROGRAM_LIMIT),
+        "program: log over 16,384 bytes, or C over 512"
+    );
+}
+
+#[test]
+fn the_programs_own_number_is_printed() {
     assert_eq!(report(b"\x01\x01\x02\x01\x02"), b"REFUSED 16 0\n");
     assert_eq!(report(&[0; 16_385]), b"REFUSED 16 16384\n");
 }

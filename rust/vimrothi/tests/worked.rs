@@ -39,14 +39,7 @@ fn the_report_is_the_documents() {
 #[test]
 fn the_loaded_table_is_the_documents() {
     let table = Table::load(WORKED).unwrap();
-    let head = Head {
-        d: 1,
-        fineness: 2,
-        capacity: 8,
-        readings: 2,
-        points: 2,
-    };
-    assert_eq!(table.head(), head);
+    assert_eq!(table.head(), Head::new(1, 2, 8).with_counts(2, 2));
     assert_eq!((table.d(), table.fineness(), table.capacity()), (1, 2, 8));
     assert_eq!((table.readings(), table.points_len()), (2, 2));
     assert_eq!(table.points(), [point(&[1, -1], 6, 36), point(&[2, -2], 2, 20)]);

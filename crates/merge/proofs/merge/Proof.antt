@@ -21,15 +21,15 @@ from s = settings (s .args .source)
 abbrev other : tie.Start → Table
 other s = table (s .args .source) (s .args .source-keys .now) (s .args .source-sums .now) (s .args .source-index .now)
 
-abbrev start : tie.After-refusal-of → tie.Start
+abbrev start : tie.After-merge-refusal → tie.Start
 start c = c .before .before .before .before .before .before
 
 -- no refusal is met
 none : (c : tie.Else1) → let s = start (c .before) in 0 ≡ mergeRefusal (of s) (the s) (from s) (other s)
-none c = sym (c .if1 .left) ∙ c .before .refusal-of .ensures
+none c = sym (c .if1 .left) ∙ c .before .merge-refusal .ensures
 
-refusal-of-requires : tie.Need-refusal-of-requires
-refusal-of-requires c κs = search needs
+merge-refusal-requires : tie.Need-merge-refusal-requires
+merge-refusal-requires c κs = search needs
 
 same-length : tie.Need-same-length
 same-length c = search needs
@@ -44,7 +44,7 @@ returns : tie.Need-returns
 returns c =
     let e = c .before in
     let s = start e in
-    refused (s .args .head) (s .args .keys .now) (s .args .sums .now) (s .args .index .now) (from s) (other s) _ (e .refusal-of .ensures) (c .if1 .taken)
+    refused (s .args .head) (s .args .keys .now) (s .args .sums .now) (s .args .index .now) (from s) (other s) _ (e .merge-refusal .ensures) (c .if1 .taken)
 
 pour-rows-requires : tie.Need-pour-rows-requires
 pour-rows-requires c κs = let e = c .before .before .before in let s = start (e .before) in pouring (of s) (the s) (from s) (other s) (sym (none e))
@@ -78,7 +78,7 @@ pub merge-spec : {M : Type 1} → statement M
 merge-spec =
     tie.close
     (tie.spec
-    refusal-of-requires
+    merge-refusal-requires
     same-length
     same-length-2
     same-length-3

@@ -2,29 +2,29 @@
 use borrow.Author.Needs.{needs}
 use native.Mathlib.Omega.{arith}
 use Rattle.pour.proofs.Seeking.{can-search, place-in, place-read}
-use Rattle.pour.proofs.Addition.{sought, appendable, added-new, to-raise, added-old}
+use Rattle.pour.proofs.Addition.{searched, appendable, added-new, to-raise, added-old}
 use Rattle.pour.proofs.add_row.Statement.{statement}
 use Rattle.pour.proofs.add_row.Tie as tie
 
 search-requires : tie.Need-search-requires
-search-requires c κs = can-search _ _ _ _ (sought _ _ _ (c .before .before .before .pre))
+search-requires c κs = let s = c .before .before .before in can-search _ _ _ _ (s .args .key .now) (searched _ _ _ (s .pre)) (s .pre .good .size)
 
 mul-entry : tie.Need-mul-entry
 mul-entry c =
-    let p = c .before .before .before .before .pre in
-    omega (arith, place-in _ _ _ _ (sought _ _ _ p) (c .search .ensures), p .ranged .C-most)
+    let s = c .before .before .before .before in
+    omega (arith, place-in _ _ _ _ (s .args .key .now) (searched _ _ _ (s .pre)) (s .pre .good .size) (c .search .ensures), s .pre .ranged .C-most)
 
 slice-read-entry : tie.Need-slice-read-entry
 slice-read-entry c =
-    let s = c .before in
-    place-read _ _ _ _ (sought _ _ _ (s .before .before .before .before .pre)) (s .search .ensures)
+    let o = c .before in
+    let s = o .before .before .before .before in
+    place-read _ _ _ _ (s .args .key .now) (searched _ _ _ (s .pre)) (s .pre .good .size) (o .search .ensures)
 
 append-row-requires : tie.Need-append-row-requires
 append-row-requires c κs =
     let k = c .before .before .before in
     let s = k .before .before in
-    let A = appendable _ _ _ (s .before .before .before .before .pre) (s .search .ensures) (let z = k .if1 .taken in omega arith) in
-    record { shape = A .shape; size = A .size; room = A .room; C-most = A .C-most; place-in = A .place-in }
+    appendable _ _ _ (s .before .before .before .before .pre) (s .search .ensures) (let z = k .if1 .taken in omega arith)
 
 same-length : tie.Need-same-length
 same-length c = search needs

@@ -1,6 +1,7 @@
 -- Two calls and a store; the laws say what they make.
 use borrow.Author.Needs.{needs}
-use Rattle.pour.proofs.Appending.{stretch-in, appended}
+use Rattle.table.specs.Table.{Row}
+use Rattle.pour.proofs.Appending.{appends}
 use Rattle.pour.proofs.append_row.Statement.{statement}
 use Rattle.pour.proofs.append_row.Tie as tie
 
@@ -8,7 +9,7 @@ add-next : tie.Need-add-next
 add-next c = search needs
 
 store-key-requires : tie.Need-store-key-requires
-store-key-requires c κs = stretch-in _ _ _ _ (c .before .before .pre)
+store-key-requires c κs = c .before .before .pre .stretch
 
 set-pair-requires : tie.Need-set-pair-requires
 set-pair-requires c κs = search needs
@@ -35,7 +36,8 @@ returns : tie.Need-returns
 returns c =
     let k = c .before .before .before .before in
     let s = k .before .before .before in
-    appended _ _ _ _ (s .pre) (s .fits .mass) (s .fits .value) (k .store-key .ensures) (c .before .set-pair .ensures)
+    let row : Row = record { key = s .args .key .now; mass = s .args .mass; value = s .args .value } in
+    appends _ _ _ _ _ row (s .fits .mass) (s .fits .value) (k .store-key .ensures) (c .before .set-pair .ensures)
 
 pub append-row-spec : {M : Type 1} → statement M
 append-row-spec =

@@ -8,15 +8,14 @@ use lib.ListN.{length}
 use lib.Dec.{lit<}
 use Rattle.whole.proofs.Signed.{W32}
 use Rattle.whole.proofs.Size.{back32}
-use Rattle.simplex.specs.Slots.{slotWeights, slotCoords}
-use Rattle.simplex.specs.Inner.{Room}
-use Rattle.simplex.proofs.Slots.{weights-turn, coords-turn}
+use Rattle.simplex.specs.Inner.{Room, weightsBy, coordsBy}
+use Rattle.simplex.proofs.Slots.{weights-turn, coords-turn, weights-all, coords-all}
 use Rattle.simplex.proofs.Enclosing.{near-of, parts-of, corner-is, no-weights, no-coords, room-of}
 use Rattle.simplex.proofs.enclose.Statement.{statement}
 use Rattle.simplex.proofs.enclose.Tie as tie
 
 abbrev Inv-loop : tie.InvT-loop
-Inv-loop x d fineness n w floors rests z₀ simplex₀ j₀ z simplex j = (j ≤ d + 1) × (length z ≡ 6) × (simplex .weights ≡ slotWeights d fineness x j) × (simplex .coords ≡ slotCoords d fineness x j)
+Inv-loop x d fineness n w floors rests z₀ simplex₀ j₀ z simplex j = (j ≤ d + 1) × (length z ≡ 6) × (simplex .weights ≡ weightsBy d fineness x j) × (simplex .coords ≡ coordsBy d fineness x j)
 
 abbrev μ-loop : tie.MeasureT-loop
 μ-loop x d fineness n w floors rests z₀ simplex₀ j₀ z simplex j = d + 1 - j
@@ -96,15 +95,16 @@ loop-again c =
     let here = corner-is _ _ _ p (r .put-splits .ensures) (l .loop .j) (search needs) (k .corner-of .ensures .corner) in (
       search needs,
       k .corner-of .ensures .span .z-six,
-      weights-turn _ _ _ (l .loop .j) (p .S-least) q here (p .d-most) (l .loop .inv .2) refl ∙ ap (slotWeights _ _ _) e,
-      coords-turn _ _ _ (l .loop .j) (p .S-least) q here (p .d-most) (l .loop .inv .3) (rw (own k) at (c .put-point .ensures)) ∙ ap (slotCoords _ _ _) e,
+      weights-turn _ _ _ (l .loop .j) (p .S-least) q here (p .d-most) (l .loop .inv .2) refl ∙ ap (weightsBy _ _ _) e,
+      coords-turn _ _ _ (l .loop .j) (p .S-least) q here (p .d-most) (l .loop .inv .3) (rw (own k) at (c .put-point .ensures)) ∙ ap (coordsBy _ _ _) e,
     )
 
 returns : tie.Need-returns Inv-loop μ-loop
 returns c =
     let l = c .before .loop in
+    let p = c .before .before .before .before .before .pre in
     let e : l .j ≡ suc (c .before .before .before .before .before .args .d) = omega arith in
-    record { weights-are = l .inv .2 ∙ ap (slotWeights _ _ _) e; coords-are = l .inv .3 ∙ ap (slotCoords _ _ _) e }
+    record { weights-are = l .inv .2 ∙ ap (weightsBy _ _ _) e ∙ weights-all _ _ _ (p .S-least); coords-are = l .inv .3 ∙ ap (coordsBy _ _ _) e ∙ coords-all _ _ _ (p .S-least) }
 
 pub enclose-spec : {M : Type 1} → statement M
 enclose-spec =

@@ -1,11 +1,11 @@
 -- Each return is the first part of soundness that fails.
+use borrow.Author.Needs.{needs}
 use mathlib.Core.Path.{_≡_}
 use mathlib.Core.Bool.{true}
-use Rattle.index.proofs.Finding.{to-sparse}
 use Rattle.table.specs.Table.{Settings, Table}
 use Rattle.table.specs.Heads.{settings, table}
-use Rattle.table.proofs.Refusals.{passed, failed, T-of}
-use Rattle.soundness.proofs.Deciding.{thin, found, rows-of, too-many-points, too-many-readings, not-thin, not-found, by-rows}
+use Rattle.table.proofs.Refusals.{passed, failed}
+use Rattle.soundness.proofs.Deciding.{thin, of-places, found, rows-of, findable, too-many-points, too-many-readings, not-thin, not-found, by-rows}
 use Rattle.soundness.proofs.is_sound.Statement.{statement}
 use Rattle.soundness.proofs.is_sound.Tie as tie
 
@@ -22,31 +22,23 @@ returns-2 : tie.Need-returns-2
 returns-2 c = let s = c .before .before .before in too-many-readings (of s) (the s) (c .before .if1 .left) (c .if2 .taken)
 
 index-is-sparse-requires : tie.Need-index-is-sparse-requires
-index-is-sparse-requires c κs = c .before .before .before .pre .1 .index
+index-is-sparse-requires c κs = search needs
 
 returns-3 : tie.Need-returns-3
 returns-3 c =
     let k = c .before in
     let e = k .before in
     let s = e .before .before .before in
-    not-thin (of s) (the s) (e .before .if1 .left) (e .if2 .left) (failed (thin (of s) (the s)) (k .index-is-sparse .ensures) (c .if3 .taken))
+    not-thin (of s) (the s) (e .before .if1 .left) (e .if2 .left) (failed (thin (of s) (the s)) (of-places (of s) (the s) (s .pre .1) (k .index-is-sparse .ensures)) (c .if3 .taken))
 
 is-thin : (c : tie.Else3) → let s = c .before .before .before .before .before in thin (of s) (the s) ≡ true
-is-thin c = let s = c .before .before .before .before .before in passed (thin (of s) (the s)) (c .before .index-is-sparse .ensures) (c .if3 .left)
+is-thin c = let s = c .before .before .before .before .before in passed (thin (of s) (the s)) (of-places (of s) (the s) (s .pre .1) (c .before .index-is-sparse .ensures)) (c .if3 .left)
 
 finds-all-requires : tie.Need-finds-all-requires
 finds-all-requires c κs =
     let e = c .before .before in
     let s = e .before .before .before in
-    let R = s .pre .0 in
-    record {
-      d-most = R .d-most;
-      C-least = R .C-least;
-      C-most = R .C-most;
-      stretches = s .pre .1 .keys;
-      places = s .pre .1 .index;
-      sparse = to-sparse _ _ _ (e .before .if1 .left) (T-of (is-thin c));
-    }
+    findable (of s) (the s) (s .pre .0) (s .pre .1) (e .before .if1 .left) (is-thin c)
 
 returns-4 : tie.Need-returns-4
 returns-4 c =

@@ -23,13 +23,7 @@ pub fn fresh(
     sums: &mut [i64],
     index: &mut [u16],
 ) -> Answer {
-    let head = Head {
-        d,
-        fineness,
-        capacity,
-        readings: 0,
-        points: 0,
-    };
+    let head = Head::new(d, fineness, capacity);
     if !in_range(d, fineness, capacity) {
         return Answer {
             number: SETTINGS_OUT_OF_RANGE,

@@ -1,7 +1,7 @@
 //! Tables that are not sound, through every call that takes a table. A damage that surely breaks a clause must be
 //! refused with 3; any other must be judged alike by both sides.
 
-use super::Case;
+use crate::case::Case;
 use crate::check::{Check, Sheets};
 use crate::damage::DAMAGES;
 use crate::positions::Scene;

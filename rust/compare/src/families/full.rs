@@ -2,7 +2,7 @@
 //! limit of 4,096 readings by load and by enter; and the greatest tables of all.
 
 use super::logs::run_log;
-use super::Case;
+use crate::case::Case;
 use crate::check::{Check, Sheets};
 use crate::logs::Log;
 use crate::positions::{Scene, LIMIT};

@@ -1,7 +1,7 @@
 //! Logs through load and report: random ones, near and at the limits, every byte changed, every cut, items in every
 //! order, and the limits of the program.
 
-use super::Case;
+use crate::case::Case;
 use crate::check::Check;
 use crate::logs::{mixed_log, worked_log, Log};
 use crate::positions::{anywhere, value, Scene, LIMIT};

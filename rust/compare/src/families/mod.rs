@@ -8,14 +8,8 @@ mod rounding;
 mod sharing;
 mod sound_tables;
 
+use crate::case::Case;
 use crate::check::Check;
-use crate::random::Random;
-
-/// One case: its number, and random numbers of its own.
-pub struct Case {
-    pub number: u64,
-    pub random: Random,
-}
 
 /// A family of inputs.
 pub struct Family {

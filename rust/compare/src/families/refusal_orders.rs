@@ -2,21 +2,12 @@
 //! wrong lengths, damage, other settings and no room; readings have several faults each.
 
 use super::sound_tables::change_a_sheet;
-use super::Case;
+use crate::case::Case;
 use crate::check::{Check, Sheets};
 use crate::damage::DAMAGES;
 use crate::positions::Scene;
 use crate::random::Random;
 use crate::table::{change_length, some_fineness, Table, GREATEST_READINGS};
-
-/// Puts one of d, S and C out of range.
-pub fn spoil_settings(random: &mut Random, table: &mut Table) {
-    match random.below(3) {
-        0 => table.head.d = random.pick(&[0, 6, 7, usize::MAX, 1 << 32, (1 << 32) + 1]),
-        1 => table.head.fineness = random.pick(&[0, 65, u32::MAX, 256, 257]),
-        _ => table.head.capacity = random.pick(&[0, 8_193, 65_536, 1 << 63, usize::MAX, (1 << 32) + 1]),
-    }
-}
 
 /// Puts random faults on a sound table: damage, then a wrong length, then settings out of range.
 fn spoil(random: &mut Random, table: &mut Table, once_in: usize) {
@@ -28,7 +19,7 @@ fn spoil(random: &mut Random, table: &mut Table, once_in: usize) {
         table.change_a_length(random);
     }
     if random.once_in(once_in) {
-        spoil_settings(random, table);
+        table.change_a_setting(random);
     }
 }
 

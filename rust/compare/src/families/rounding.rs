@@ -1,6 +1,6 @@
 //! Rounding: tables made by hand whose fractions are halves, or just above or below a half, of either sign.
 
-use super::Case;
+use crate::case::Case;
 use crate::check::{Check, Sheets};
 use crate::positions::{beside_point, LIMIT};
 use crate::random::Random;

@@ -1,7 +1,7 @@
 //! Readings shared among several tables, entered in any order and merged in any order, against one sum of all of them
 //! that the independent version keeps without any table: the listing, the total and the answers are the same.
 
-use super::Case;
+use crate::case::Case;
 use crate::check::{Check, Sheets};
 use crate::positions::Scene;
 use crate::random::Random;

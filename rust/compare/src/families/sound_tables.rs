@@ -2,7 +2,7 @@
 //! kinds, anything past the m-th point, and an index in any insertion order, with equal home places, going round the
 //! end, and in tables without room.
 
-use super::Case;
+use crate::case::Case;
 use crate::check::{Check, Sheets};
 use crate::positions::{beside_point, value, Scene};
 use crate::random::Random;
@@ -23,7 +23,7 @@ pub fn fresh(case: &mut Case, check: &mut Check) {
     let fineness = some_fineness(random);
     let mut table = Table::lent(random, d, fineness, capacity);
     match random.below(5) {
-        0 => super::refusal_orders::spoil_settings(random, &mut table),
+        0 => table.change_a_setting(random),
         1 => table.change_a_length(random),
         _ => {}
     }

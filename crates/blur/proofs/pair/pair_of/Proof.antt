@@ -6,22 +6,22 @@ use lib.ListN.{length}
 use mir.Facts.{toZ-ofZ}
 use Rattle.index.specs.Search.{entryAt}
 use Rattle.pour.proofs.Seeking.{can-search, place-in, place-read}
-use Rattle.blur.proofs.Looking.{sought, none-found, pair-in, one-found}
+use Rattle.blur.proofs.Looking.{searched, none-found, pair-in, one-found}
 use Rattle.blur.proofs.pair.pair_of.Statement.{statement}
 use Rattle.blur.proofs.pair.pair_of.Tie as tie
 
 search-requires : tie.Need-search-requires
-search-requires c κs = let s = c .before in can-search _ _ _ _ (sought _ _ (s .args .key .now) (s .pre .0) (s .pre .1))
+search-requires c κs = let s = c .before in can-search _ _ _ _ (s .args .key .now) (searched _ _ (s .args .key .now) (s .pre .0) (s .pre .1)) (s .pre .1)
 
 mul-entry : tie.Need-mul-entry
 mul-entry c =
     let s = c .before .before in
-    omega (arith, place-in _ _ _ _ (sought _ _ (s .args .key .now) (s .pre .0) (s .pre .1)) (c .search .ensures), s .pre .0 .ranged .C-most)
+    omega (arith, place-in _ _ _ _ (s .args .key .now) (searched _ _ (s .args .key .now) (s .pre .0) (s .pre .1)) (s .pre .1) (c .search .ensures), s .pre .0 .ranged .C-most)
 
 shared-slice-read-entry : tie.Need-shared-slice-read-entry
 shared-slice-read-entry c =
     let s = c .before .before .before in
-    place-read _ _ _ _ (sought _ _ (s .args .key .now) (s .pre .0) (s .pre .1)) (c .before .search .ensures)
+    place-read _ _ _ _ (s .args .key .now) (searched _ _ (s .args .key .now) (s .pre .0) (s .pre .1)) (s .pre .1) (c .before .search .ensures)
 
 returns : tie.Need-returns
 returns c =

@@ -4,13 +4,13 @@ use native.Mathlib.Omega.{arith}
 use mathlib.Core.Path.{_≡_, refl, subst}
 use Prim.Native.Nat.{ℕ, _≤_, _-_}
 use Rattle.table.specs.Heads.{settings, table}
-use Rattle.blur.specs.Inner.{Passed}
+use Rattle.blur.specs.Inner.{NewPairs}
 use Rattle.blur.proofs.Passing.{pair-in, passed-none, passed-more}
 use Rattle.blur.proofs.pass.pass.Statement.{statement}
 use Rattle.blur.proofs.pass.pass.Tie as tie
 
 abbrev Inv-loop : tie.InvT-loop
-Inv-loop head keys index from to₀ k m i₀ to i = (i ≤ m) × (m ≡ head .points) × Passed (settings head) (table head keys from index) k i to
+Inv-loop head keys index from to₀ k m i₀ to i = (i ≤ m) × (m ≡ head .points) × NewPairs (settings head) (table head keys from index) k i to
 
 abbrev μ-loop : tie.MeasureT-loop
 μ-loop head keys index from to₀ k m i₀ to i = m - i
@@ -51,7 +51,7 @@ returns c =
     let l = c .before .loop in
     let s = c .before .before .before in
     let e : l .i ≡ s .args .head .points = omega arith in
-    subst (λ (n : ℕ). Passed (settings (s .args .head)) (table (s .args .head) (s .args .keys .now) (s .args .from .now) (s .args .index .now)) (s .args .k) n (l .to)) e (l .inv .2)
+    subst (λ (n : ℕ). NewPairs (settings (s .args .head)) (table (s .args .head) (s .args .keys .now) (s .args .from .now) (s .args .index .now)) (s .args .k) n (l .to)) e (l .inv .2)
 
 pub pass-spec : {M : Type 1} → statement M
 pass-spec =

@@ -1,7 +1,4 @@
-use mathlib.Core.Path.{refl}
-use lib.IntN.{pos, _*ℤ_}
-use lib.ListN.{getD}
-use Rattle.enter.proofs.Slots.{slot-none, slot-one, news-none, news-one, kept-size}
+use Rattle.enter.proofs.Slots.{slot-no-key, slot-key, news-none, news-one, kept-size}
 use borrow.Author.Needs.{needs}
 use Rattle.enter.proofs.shares.new_in_slot.Statement.{statement}
 use Rattle.enter.proofs.shares.new_in_slot.Tie as tie
@@ -13,9 +10,8 @@ shared-slice-read-if1 : tie.Need-shared-slice-read-if1
 shared-slice-read-if1 c = search needs
 
 returns : tie.Need-returns
-returns c = λ v.
-    let a = c .before .before .before .before .args in
-    news-none _ _ _ (slot-none (a .head .d) (a .weights .now) (a .coords .now) v (a .slot) (c .if1 .taken))
+returns c = let a = c .before .before .before .before .args in
+    news-none _ _ _ _ (slot-no-key (a .head .d) (a .weights .now) (a .coords .now) (a .slot) (c .if1 .taken))
 
 mul-start : tie.Need-mul-start
 mul-start c = search needs
@@ -38,15 +34,14 @@ part-is-new-end c = search needs
 is-new-requires : tie.Need-is-new-requires
 is-new-requires c κs = let a = c .before .before .before .before .before .before .args in
     let p = c .before .before .before .before .before .before .pre in
-    record { points = _; seekable = p .0 .seekable; key-size = kept-size (a .head .d) (a .coords .now) (a .slot) (p .0 .seekable .ranged .d-most) (p .1) (p .0 .arrays .coords-size) }
+    (p .0 .searchable, kept-size (a .head .d) (a .coords .now) (a .slot) (p .0 .d-most) (p .1) (p .0 .arrays .coords-size))
 
 returns-2 : tie.Need-returns-2
-returns-2 c = λ v.
+returns-2 c =
     let a = c .before .before .before .before .before .before .before .args in
     let p = c .before .before .before .before .before .before .before .pre in
-    news-one _ _ _ _ (c .is-new .ensures)
-    (slot-one (a .head .d) (a .weights .now) (a .coords .now) v (a .slot) _ (pos (getD (a .weights .now) (a .slot) 0)) (pos (getD (a .weights .now) (a .slot) 0) *ℤ v)
-    (p .0 .seekable .ranged .d-most) (p .1) (p .0 .arrays .coords-size) (c .before .before .before .if1 .left) refl refl refl)
+    news-one _ _ _ _ _ (c .is-new .ensures)
+    (slot-key (a .head .d) (a .weights .now) (a .coords .now) (a .slot) (p .0 .d-most) (p .1) (p .0 .arrays .coords-size) (c .before .before .before .if1 .left))
 
 pub new-in-slot-spec : {M : Type 1} → statement M
 new-in-slot-spec =

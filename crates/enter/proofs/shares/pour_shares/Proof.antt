@@ -7,9 +7,9 @@ use mir.Syntax.{w32}
 use lib.IntN.{ℤ}
 use mir.Val.{toZ, ofZ}
 use mir.Facts.{toZ-ofZ}
-use Rattle.table.specs.Heads.{settings, stored, table}
+use Rattle.table.specs.Heads.{settings, tableWith, table}
 use Rattle.table.specs.Pour.{pour}
-use Rattle.enter.specs.Slots.{rowsTo, Pouring}
+use Rattle.enter.specs.Slots.{rowsTo, SharesToPour}
 use Rattle.table.proofs.Turns.{pour-turn}
 use Rattle.enter.proofs.Slots.{pour-none, rows-none, rows-more, slot-pourable, ended}
 use Rattle.enter.proofs.shares.pour_shares.Statement.{statement}
@@ -18,19 +18,19 @@ use Rattle.enter.proofs.shares.pour_shares.Tie as tie
 abbrev Inv-loop : tie.InvT-loop
 Inv-loop head keys₀ sums₀ index₀ weights coords value n points₀ slot₀ keys sums index points slot =
     (slot ≤ n) × (n ≡ head .d + 1) × (length keys ≡ length keys₀) × (length sums ≡ length sums₀) × (length index ≡ length index₀)
-    × (stored head points keys sums index ≡ pour (settings head) (table head keys₀ sums₀ index₀) (rowsTo (head .d) weights coords (toZ w32 value) slot))
+    × (tableWith head points keys sums index ≡ pour (settings head) (table head keys₀ sums₀ index₀) (rowsTo (head .d) weights coords (toZ w32 value) slot))
 
 abbrev μ-loop : tie.MeasureT-loop
 μ-loop head keys₀ sums₀ index₀ weights coords value n points₀ slot₀ keys sums index points slot = n - slot
 
 -- what is asked, at the value as the machine has it
 ready : (s : tie.Start Inv-loop μ-loop) → let v = toZ w32 (ofZ w32 (s .args .value)) in
-    Pouring (settings (s .args .head)) (table (s .args .head) (s .args .keys .now) (s .args .sums .now) (s .args .index .now)) (s .args .weights .now) (s .args .coords .now) v
+    SharesToPour (settings (s .args .head)) (table (s .args .head) (s .args .keys .now) (s .args .sums .now) (s .args .index .now)) (s .args .weights .now) (s .args .coords .now) v
     (rowsTo (s .args .head .d) (s .args .weights .now) (s .args .coords .now) v (suc (s .args .head .d)))
 ready s =
     let a = s .args in
     subst
-    (λ (v : ℤ). Pouring (settings (a .head)) (table (a .head) (a .keys .now) (a .sums .now) (a .index .now)) (a .weights .now) (a .coords .now) v (rowsTo (a .head .d) (a .weights .now) (a .coords .now) v (suc (a .head .d))))
+    (λ (v : ℤ). SharesToPour (settings (a .head)) (table (a .head) (a .keys .now) (a .sums .now) (a .index .now)) (a .weights .now) (a .coords .now) v (rowsTo (a .head .d) (a .weights .now) (a .coords .now) v (suc (a .head .d))))
     (sym (toZ-ofZ (s .fits .value))) (s .pre)
 
 add-n : tie.Need-add-n Inv-loop μ-loop

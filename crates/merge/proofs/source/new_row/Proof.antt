@@ -2,7 +2,7 @@
 use mathlib.Core.Path.{ap, _∙_}
 use borrow.Author.Needs.{needs}
 use Rattle.table.specs.Heads.{settings}
-use Rattle.pour.specs.Inner.{oneIfNew}
+use Rattle.table.specs.Pour.{oneIfNew}
 use Rattle.merge.proofs.Rows.{stretch-is, stretch-size}
 use Rattle.merge.proofs.source.new_row.Statement.{statement}
 use Rattle.merge.proofs.source.new_row.Tie as tie
@@ -28,8 +28,7 @@ part-is-new-end c = search needs
 is-new-requires : tie.Need-is-new-requires
 is-new-requires c κs =
     let s = c .before .before .before .before in
-    let p = s .pre .0 in
-    record { points = s .args .head .points; seekable = p; key-size = stretch-size _ _ _ (s .pre .1) }
+    (s .pre .0, stretch-size _ _ _ (s .pre .1))
 
 returns : tie.Need-returns
 returns c =

@@ -1,6 +1,6 @@
 -- The row that is added is the source's: its stretch, its mass and its value sum.
 use borrow.Author.Needs.{needs}
-use Rattle.table.specs.Heads.{settings, stored}
+use Rattle.table.specs.Heads.{settings, tableWith}
 use Rattle.merge.proofs.Rows.{read-back, row-lent, row-added}
 use Rattle.merge.proofs.source.pour_row.Statement.{statement}
 use Rattle.merge.proofs.source.pour_row.Tie as tie
@@ -48,7 +48,7 @@ returns c =
     let s = g .before .before .before .before .before in
     let p = read-back (g .before .mass .given) in
     let q = read-back (g .value .given) in
-    row-added (settings (s .args .head)) (stored (s .args .head) (s .args .points) (s .args .keys .now) (s .args .sums .now) (s .args .index .now)) _ (s .args .source-sums .now) (s .args .row) _ _ (s .pre .1 .stretch) p q (o .add-row .ensures)
+    row-added (settings (s .args .head)) (tableWith (s .args .head) (s .args .points) (s .args .keys .now) (s .args .sums .now) (s .args .index .now)) _ (s .args .source-sums .now) (s .args .row) _ _ (s .pre .1 .stretch) p q (o .add-row .ensures)
 
 add-row-requires : tie.Need-add-row-requires
 add-row-requires c κs =

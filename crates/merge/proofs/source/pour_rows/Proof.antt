@@ -4,7 +4,7 @@ use mathlib.Core.Path.{_≡_, refl, _∙_}
 use Prim.Native.Nat.{_-_, _≤_, _<_}
 use lib.ListN.{length}
 use borrow.Author.Needs.{needs}
-use Rattle.table.specs.Heads.{settings, stored, table}
+use Rattle.table.specs.Heads.{settings, tableWith, table}
 use Rattle.table.specs.Pour.{pour}
 use Rattle.merge.specs.Source.{firstRows}
 use Rattle.merge.proofs.Rows.{poured-none, row-addable, stretch-of, row-turn, ended}
@@ -13,7 +13,7 @@ use Rattle.merge.proofs.source.pour_rows.Tie as tie
 
 abbrev Inv-loop : tie.InvT-loop
 Inv-loop head keys₀ sums₀ index₀ source-keys source-sums source-points points₀ row₀ keys sums index points row =
-    (stored head points keys sums index ≡ pour (settings head) (table head keys₀ sums₀ index₀) (firstRows (head .d) source-keys source-sums row))
+    (tableWith head points keys sums index ≡ pour (settings head) (table head keys₀ sums₀ index₀) (firstRows (head .d) source-keys source-sums row))
     × (row ≤ source-points) × (length keys ≡ length keys₀) × (length sums ≡ length sums₀) × (length index ≡ length index₀)
 
 abbrev μ-loop : tie.MeasureT-loop

@@ -13,33 +13,32 @@ use Rattle.whole.proofs.Parts.{zin}
 use Rattle.whole.proofs.Signed.{zlin, zeq, zfits, eq-plus}
 use Rattle.whole.proofs.Size.{zabs}
 use Rattle.whole.proofs.Sum.{sum-more}
-use Rattle.table.specs.Heads.{settings, table}
-use Rattle.report.proofs.Numbers.{filled, kept, one-more, key-inside, point-done}
+use Rattle.report.proofs.Numbers.{filled, kept, one-more, point-done}
 use Rattle.report.proofs.lines.point_numbers.Statement.{statement}
 use Rattle.report.proofs.lines.point_numbers.Tie as tie
 
 abbrev Inv-loop : tie.InvT-loop
-Inv-loop keys sums index i d start numbers₀ total₀ j₀ numbers total j =
+Inv-loop keys sums i d start numbers₀ total₀ j₀ numbers total j =
     (j ≤ d) × (numbers ≡ filled (tab j (kept keys start))) × (toZ w64 total ≡ sum j (kept keys start)) × Abs≤ (toZ w64 total) (j * 2147483648)
 
 abbrev μ-loop : tie.MeasureT-loop
-μ-loop keys sums index i d start numbers₀ total₀ j₀ numbers total j = d - j
+μ-loop keys sums i d start numbers₀ total₀ j₀ numbers total j = d - j
 
 mul-start : tie.Need-mul-start Inv-loop μ-loop
-mul-start c = let p = key-inside (c .pre) in search needs
+mul-start c = let p = c .pre .stretch in search needs
 
 loop-holds : tie.Need-loop-holds Inv-loop μ-loop
 unfolding sum tab
 loop-holds c = (search needs, refl, zeq (search zlin depth 14) (omega arith), zabs (search zlin depth 14) (omega arith))
 
 add-kept : tie.Need-add-kept Inv-loop μ-loop
-add-kept c = let p = key-inside (c .before .before .pre) in search needs
+add-kept c = let p = c .before .before .pre .stretch in search needs
 
 mul-kept : tie.Need-mul-kept Inv-loop μ-loop
-mul-kept c = let p = key-inside (c .before .before .pre) in search needs
+mul-kept c = let p = c .before .before .pre .stretch in search needs
 
 shared-slice-copy-out-kept : tie.Need-shared-slice-copy-out-kept Inv-loop μ-loop
-shared-slice-copy-out-kept c = let p = key-inside (c .before .before .pre) in search needs
+shared-slice-copy-out-kept c = let p = c .before .before .pre .stretch in search needs
 
 fit : (c : tie.After-kept Inv-loop μ-loop) →
     let s = c .before .before .before .args in
@@ -132,8 +131,7 @@ returns c =
     let a = l .before .args in
     let m : SFits w64 (at (a .sums .now) (2 * a .i)) = record { sfits = c .before .numbers .given } in
     let v : SFits w64 (at (a .sums .now) (2 * a .i + 1)) = record { sfits = c .numbers2 .given } in
-    let t = table (a .head) (a .keys .now) (a .sums .now) (a .index .now) in
-    point-done (settings (a .head)) t (a .i) (l .loop .j) (omega arith) (l .before .pre .printable .fine .ranged .d-most)
+    point-done (a .head .d) (a .keys .now) (a .sums .now) (a .i) (l .loop .j) (omega arith) (l .before .pre .d-most)
     (l .loop .inv .1) (zeq (search zlin depth 14) (omega (arith, zin))) (toZ-ofZ m) (toZ-ofZ v)
 
 pub point-numbers-spec : {M : Type 1} → statement M

@@ -4,7 +4,7 @@ use mathlib.Core.Path.{sym}
 use Prim.Native.Nat.{_-_}
 use native.Mathlib.Omega.{arith}
 use lib.ListN.{replicate}
-use Rattle.report.proofs.Rows.{listed-rows}
+use Rattle.report.proofs.Rows.{listed-rows, listed-written}
 use Rattle.report.proofs.points.put_points.Statement.{statement}
 use Rattle.report.proofs.points.put_points.Tie as tie
 
@@ -36,7 +36,11 @@ same-length : tie.Need-same-length
 same-length c = search needs
 
 returns : tie.Need-returns
-returns c = search needs
+returns c =
+    let k = c .before .before in
+    let l = k .before .before .before .before in
+    let s = l .before .before .before .before in
+    listed-written _ (s .pre) (omega (arith, l .before .order .given .2)) (l .list .ensures) (k .put-rows .ensures)
 
 pub put-points-spec : {M : Type 1} → statement M
 put-points-spec =

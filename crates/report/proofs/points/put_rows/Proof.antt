@@ -2,22 +2,22 @@ use borrow.Author.Needs.{needs}
 use mathlib.Core.Path.{_≡_, refl}
 use Prim.Native.Nat.{_≤_, _-_}
 use native.Mathlib.Omega.{arith}
-use Rattle.table.specs.Heads.{settings, table}
 use Rattle.text.specs.Text.{Written}
 use Rattle.text.proofs.Lines.{written-length}
-use Rattle.report.proofs.Rows.{firstLines, rows-start, row-room, row-more, rows-done}
+use Rattle.report.specs.Inner.{linesIn}
+use Rattle.report.proofs.Rows.{rows-start, row-room, row-more, rows-done}
 use Rattle.report.proofs.points.put_rows.Statement.{statement}
 use Rattle.report.proofs.points.put_rows.Tie as tie
 
 abbrev Inv-loop : tie.InvT-loop
-Inv-loop out₀ at head keys sums index order next₀ j₀ j-end out next j =
-    (j ≤ head .points) × (j-end ≡ head .points) × Written out₀ at (firstLines (settings head) (table head keys sums index) j) next out
+Inv-loop out₀ at head keys sums order next₀ j₀ j-end out next j =
+    (j ≤ head .points) × (j-end ≡ head .points) × Written out₀ at (linesIn (head .d) keys sums order j) next out
 
 abbrev μ-loop : tie.MeasureT-loop
-μ-loop out₀ at head keys sums index order next₀ j₀ j-end out next j = j-end - j
+μ-loop out₀ at head keys sums order next₀ j₀ j-end out next j = j-end - j
 
 loop-holds : tie.Need-loop-holds Inv-loop μ-loop
-loop-holds c = (search needs, refl, rows-start _ _ _ _)
+loop-holds c = (search needs, refl, rows-start _ _ _ _ _ _)
 
 mul-i : tie.Need-mul-i Inv-loop μ-loop
 mul-i c = search needs
@@ -26,10 +26,10 @@ shared-slice-read-i : tie.Need-shared-slice-read-i Inv-loop μ-loop
 shared-slice-read-i c = search needs
 
 cast-i : tie.Need-cast-i Inv-loop μ-loop
-cast-i c = omega (arith, c .shared-slice-known3 .given (c .before .before .loop .j))
+cast-i c = omega (arith, c .shared-slice-known2 .given (c .before .before .loop .j))
 
-put-point-requires : tie.Need-put-point-requires Inv-loop μ-loop
-put-point-requires c κs = let l = c .before .before .before in row-room (l .before .before .before .before .pre) (l .loop .inv .2) (search needs)
+put-point-line-requires : tie.Need-put-point-line-requires Inv-loop μ-loop
+put-point-line-requires c κs = let l = c .before .before .before in row-room (l .before .before .before .pre) (l .loop .inv .2) (search needs)
 
 add-j : tie.Need-add-j Inv-loop μ-loop
 add-j c = search needs
@@ -40,13 +40,13 @@ loop-less c = search needs
 loop-again : tie.Need-loop-again Inv-loop μ-loop
 loop-again c =
     let l = c .before .before .before .before .before .before in
-    (search needs, refl, row-more (l .before .before .before .before .pre) (l .loop .inv .2) (search needs) (c .before .before .put-point .ensures))
+    (search needs, refl, row-more (l .before .before .before .pre) (l .loop .inv .2) (search needs) (c .before .before .put-point-line .ensures))
 
 returns : tie.Need-returns Inv-loop μ-loop
-returns c = let l = c .before in rows-done (l .before .before .before .before .pre) (l .loop .inv .2) (search needs) (search needs)
+returns c = let l = c .before in rows-done (l .before .before .before .pre) (l .loop .inv .2) (search needs) (search needs)
 
 same-length : tie.Need-same-length Inv-loop μ-loop
-same-length c = written-length (returns c) (c .before .before .before .before .before .pre .space)
+same-length c = written-length (returns c) (c .before .before .before .before .pre .space)
 
 pub put-rows-spec : {M : Type 1} → statement M
 put-rows-spec =
@@ -58,7 +58,7 @@ put-rows-spec =
     mul-i
     shared-slice-read-i
     cast-i
-    put-point-requires
+    put-point-line-requires
     add-j
     loop-less
     loop-again

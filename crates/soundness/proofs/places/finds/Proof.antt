@@ -10,12 +10,12 @@ use Rattle.index.specs.Keys.{keyAt}
 use Rattle.index.specs.Search.{entryAt}
 use Rattle.soundness.specs.Inner.{placeOf}
 use Rattle.index.proofs.Equality.{key-part}
-use Rattle.soundness.proofs.Seeking.{room, searchable, found-at, found-in}
+use Rattle.soundness.proofs.Seeking.{room, can-search, found-at, found-in}
 use Rattle.soundness.proofs.places.finds.Statement.{statement}
 use Rattle.soundness.proofs.places.finds.Tie as tie
 
 stretch : (s : tie.Start) → s .args .d * s .args .i + s .args .d ≤ length (s .args .keys .now)
-stretch s = room _ _ _ _ _ (s .pre .0) (s .args .i) (s .pre .1)
+stretch s = room _ _ _ _ _ (s .pre)
 
 mul-a : tie.Need-mul-a
 mul-a c = record { fits = omega (arith, stretch (c .before)) }
@@ -39,22 +39,22 @@ own : (s : tie.Start) → let a = s .args in take (a .d * a .i + a .d - a .d * a
 own s = key-part (s .args .d) (s .args .keys .now) (s .args .i) (stretch s)
 
 search-requires : tie.Need-search-requires
-search-requires c κs = let s = c .before .before in searchable _ _ _ _ _ (s .pre .0) (s .args .i) (own s)
+search-requires c κs = let s = c .before .before in can-search _ _ _ _ _ (s .pre) (own s)
 
 place : (c : tie.After-search) → let a = c .before .before .before .args in c .search .result ≡ placeOf (a .d) (a .capacity) (a .keys .now) (a .index .now) (a .i)
-place c = let s = c .before .before .before in found-at _ _ _ _ _ (s .pre .0) (s .args .i) (own s) (c .search .ensures)
+place c = let s = c .before .before .before in found-at _ _ _ _ _ (s .pre) (own s) (c .search .ensures)
 
 mul-e : tie.Need-mul-e
-mul-e c = let s = c .before .before .before in omega (arith, found-in _ _ _ _ _ (s .pre .0) (s .args .i) (place c))
+mul-e c = let s = c .before .before .before in omega (arith, found-in _ _ _ _ _ (s .pre) (place c))
 
 shared-slice-read-e : tie.Need-shared-slice-read-e
-shared-slice-read-e c = let s = c .before .before .before .before in found-in _ _ _ _ _ (s .pre .0) (s .args .i) (place (c .before))
+shared-slice-read-e c = let s = c .before .before .before .before in found-in _ _ _ _ _ (s .pre) (place (c .before))
 
 add-result : tie.Need-add-result
 add-result c = search needs
 
 cast-result : tie.Need-cast-result
-cast-result c = let s = c .before .before .before .before in omega (arith, s .pre .1, s .pre .0 .sparse .room, s .pre .0 .C-most)
+cast-result c = let s = c .before .before .before .before in omega (arith, s .pre .few)
 
 returns : tie.Need-returns
 returns c =

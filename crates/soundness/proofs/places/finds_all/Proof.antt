@@ -9,6 +9,7 @@ use Rattle.whole.specs.Sum.{all}
 use Rattle.whole.proofs.Tests.{all-more, all-stop}
 use Rattle.index.specs.Indexed.{finding}
 use Rattle.soundness.specs.Inner.{isFound}
+use Rattle.soundness.proofs.Seeking.{findable-to}
 use Rattle.soundness.proofs.places.finds_all.Statement.{statement}
 use Rattle.soundness.proofs.places.finds_all.Tie as tie
 
@@ -28,7 +29,7 @@ unfolding all
 loop-holds c = (search needs, refl)
 
 finds-requires : tie.Need-finds-requires Inv-loop μ-loop
-finds-requires c κs = (c .before .before .before .pre, search needs)
+finds-requires c κs = findable-to _ _ _ _ _ _ (c .before .before .before .pre) (search needs)
 
 returns : tie.Need-returns Inv-loop μ-loop
 unfolding finding

@@ -3,8 +3,9 @@ use borrow.Author.Needs.{needs}
 use native.Mathlib.Omega.{arith}
 use mathlib.Core.Path.{_≡_, refl, sym}
 use mathlib.Core.Bool.{true}
-use Prim.Native.Nat.{_*_, _≤_, _-_}
+use Prim.Native.Nat.{_≤_, _-_}
 use lib.Dec.{leb}
+use lib.ListN.{length}
 use borrow.Author.Tests.{le-leb}
 use Rattle.whole.specs.Sum.{all}
 use Rattle.whole.proofs.Tests.{all-more}
@@ -15,15 +16,15 @@ use Rattle.soundness.proofs.places.index_is_sparse.Statement.{statement
 use Rattle.soundness.proofs.places.index_is_sparse.Tie as tie
 
 abbrev Inv-loop : tie.InvT-loop
-Inv-loop index capacity points places named₀ p₀ named p =
-    (p ≤ places) × (places ≡ 2 * capacity) × (named ≤ p) × (all p (λ q. leb (entryAt index q) points) ≡ true) × (named ≡ count p (used (entryAt index)))
+Inv-loop index points places named₀ p₀ named p =
+    (p ≤ places) × (places ≡ length index) × (named ≤ p) × (all p (λ q. leb (entryAt index q) points) ≡ true) × (named ≡ count p (used (entryAt index)))
 
 abbrev μ-loop : tie.MeasureT-loop
-μ-loop index capacity points places named₀ p₀ named p = places - p
+μ-loop index points places named₀ p₀ named p = places - p
 
 loop-holds : tie.Need-loop-holds Inv-loop μ-loop
 unfolding all
-loop-holds c = (search needs, c .before .pre, search needs, refl, count-none (entryAt (c .before .args .index .now)))
+loop-holds c = (search needs, refl, search needs, refl, count-none (entryAt (c .before .args .index .now)))
 
 mul-e : tie.Need-mul-e Inv-loop μ-loop
 mul-e c = search needs
@@ -38,7 +39,7 @@ returns : tie.Need-returns Inv-loop μ-loop
 returns c =
     let l = c .before .before .before .loop in
     let s = c .before .before .before .before .before in
-    sym (sparse-stop (s .args .capacity) (s .args .points) (entryAt (s .args .index .now)) (l .p) (omega (arith, l .inv .1)) (c .if1 .taken))
+    sym (sparse-stop (length (s .args .index .now)) (s .args .points) (entryAt (s .args .index .now)) (l .p) (omega (arith, l .inv .1)) (c .if1 .taken))
 
 tally-of-requires : tie.Need-tally-of-requires Inv-loop μ-loop
 tally-of-requires c κs = search needs
@@ -72,7 +73,7 @@ returns-2 : tie.Need-returns-2 Inv-loop μ-loop
 returns-2 c =
     let l = c .before .loop in
     let s = c .before .before .before in
-    sparse-done (s .args .capacity) (s .args .points) (entryAt (s .args .index .now)) (l .p) (omega (arith, l .inv .1)) (l .inv .3) (l .inv .4)
+    sparse-done (length (s .args .index .now)) (s .args .points) (entryAt (s .args .index .now)) (l .p) (omega (arith, l .inv .1)) (l .inv .3) (l .inv .4)
 
 pub index-is-sparse-spec : {M : Type 1} → statement M
 index-is-sparse-spec =

@@ -1,8 +1,9 @@
 -- The part that is lent is the key of point i; its pair stands at 2·i.
 use borrow.Author.Needs.{needs}
+use native.Mathlib.Nat.{le-refl}
 use native.Mathlib.Omega.{arith}
 use mathlib.Core.Path.{_≡_, ap, ap₂, sym, _∙_}
-use Prim.Native.Nat.{_+_, _-_, _*_, _≤_}
+use Prim.Native.Nat.{suc, _+_, _-_, _*_, _≤_}
 use lib.ListN.{length, take, drop}
 use borrow.Author.Tests.{not-true, not-false}
 use mir.Syntax.{w64}
@@ -17,7 +18,7 @@ use Rattle.soundness.proofs.rows.good_row.Statement.{statement}
 use Rattle.soundness.proofs.rows.good_row.Tie as tie
 
 stretch : (s : tie.Start) → s .args .d * s .args .i + s .args .d ≤ length (s .args .keys .now)
-stretch s = stretch-fits (s .args .d) (s .args .i) (s .args .points) _ (s .pre .1) (s .pre .0 .stretches)
+stretch s = stretch-fits (s .args .d) (s .args .i) (suc (s .args .i)) _ (le-refl _) (s .pre .stretches)
 
 mul-a : tie.Need-mul-a
 mul-a c = record { fits = omega (arith, stretch c) }
@@ -44,7 +45,7 @@ good-key-requires : tie.Need-good-key-requires
 good-key-requires c κs =
     let s = c .before in
     let e = ap length (own s) ∙ keyAt-length (s .args .d) (s .args .keys .now) (s .args .i) in
-    rw e (s .pre .0 .d-least, s .pre .0 .d-most)
+    rw e (s .pre .d-least, s .pre .d-most)
 
 returns : tie.Need-returns
 returns c =
@@ -54,25 +55,25 @@ returns c =
     (sym (key-of (s .args .d) (s .args .keys .now) (s .args .i) (own s) (k .good-key .ensures)) ∙ not-true _ (c .if1 .taken))
 
 mul-mass : tie.Need-mul-mass
-mul-mass c = let p = c .before .before .before .pre in record { fits = omega (arith, p .0 .few, p .1) }
+mul-mass c = let p = c .before .before .before .pre in record { fits = omega (arith, p .few) }
 
 mul-mass-2 : tie.Need-mul-mass-2
-mul-mass-2 c = let p = c .before .before .before .pre in omega (arith, p .0 .few, p .1)
+mul-mass-2 c = let p = c .before .before .before .pre in omega (arith, p .few)
 
 shared-slice-copy-out-mass : tie.Need-shared-slice-copy-out-mass
-shared-slice-copy-out-mass c = let p = c .before .before .before .pre in omega (arith, p .0 .pairs, p .1)
+shared-slice-copy-out-mass c = let p = c .before .before .before .pre in omega (arith, p .pairs)
 
 mul-value : tie.Need-mul-value
-mul-value c = let p = c .before .before .before .before .pre in record { fits = omega (arith, p .0 .few, p .1) }
+mul-value c = let p = c .before .before .before .before .pre in record { fits = omega (arith, p .few) }
 
 add-value : tie.Need-add-value
-add-value c = let p = c .before .before .before .before .pre in record { fits = omega (arith, p .0 .few, p .1) }
+add-value c = let p = c .before .before .before .before .pre in record { fits = omega (arith, p .few) }
 
 mul-value-2 : tie.Need-mul-value-2
-mul-value-2 c = let p = c .before .before .before .before .pre in omega (arith, p .0 .few, p .1)
+mul-value-2 c = let p = c .before .before .before .before .pre in omega (arith, p .few)
 
 shared-slice-copy-out-value : tie.Need-shared-slice-copy-out-value
-shared-slice-copy-out-value c = let p = c .before .before .before .before .pre in omega (arith, p .0 .pairs, p .1)
+shared-slice-copy-out-value c = let p = c .before .before .before .before .pre in omega (arith, p .pairs)
 
 good-pair-requires : tie.Need-good-pair-requires
 good-pair-requires c κs = search needs

@@ -17,7 +17,7 @@ use Rattle.whole.proofs.Size.{zabs}
 use Rattle.whole.proofs.Sum.{sum-more}
 use Rattle.whole.proofs.Tests.{all-more}
 use Rattle.soundness.specs.Inner.{lightRow}
-use Rattle.soundness.proofs.Weighing.{row-mass, rows-stop, rows-done, bits-same}
+use Rattle.soundness.proofs.Weighing.{rows-fewer, row-mass, rows-stop, rows-done, bits-same}
 use Rattle.soundness.proofs.rows.rows_are_good.Statement.{statement}
 use Rattle.soundness.proofs.rows.rows_are_good.Tie as tie
 
@@ -40,7 +40,7 @@ unfolding sum all
 loop-holds c = (search needs, refl, zeq (search zlin depth 14) (omega arith), refl, zabs (search zlin depth 14) (omega arith))
 
 good-row-requires : tie.Need-good-row-requires Inv-loop μ-loop
-good-row-requires c κs = (c .before .before .pre, search needs)
+good-row-requires c κs = rows-fewer (c .before .before .pre) (search needs)
 
 returns : tie.Need-returns Inv-loop μ-loop
 returns c =

@@ -1,0 +1,47 @@
+-- The contracts of the functions inside the library: most say what the answer equals, or what is left; the others say it part by part.
+use mathlib.Core.Path.{sym, _∙_}
+use Rattle.promises.specs.Inner.{InnerOnly}
+
+pub inner-only : InnerOnly
+inner-only = record {
+  remainder-of = λ κs a o u p q. λ i. ((p ∙ sym q) i, o .1);
+  floor-of = λ κs a o u p q. λ i. ((p ∙ sym q) i, o .1);
+  round-fraction = λ κs a o u p q. λ i. ((p ∙ sym q) i, o .1);
+  word-of = λ κs a o u p q. λ i. ((p ∙ sym q) i, o .1);
+  size-of = λ κs a o u p q. λ i. ((p ∙ sym q) i, o .1);
+  multiply = λ κs a o u p q. λ i. ((p ∙ sym q) i, o .1);
+  judge = λ κs a o u p q. λ i. ((p ∙ sym q) i, o .1);
+  enclose = λ κs a o u p q. λ i. (record { weights = (p .weights-are ∙ sym (q .weights-are)) i; coords = (p .coords-are ∙ sym (q .coords-are)) i }, o .1);
+  home-of = λ κs a o u p q. λ i. ((p ∙ sym q) i, o .1);
+  same-key = λ κs a o u p q. λ i. ((p ∙ sym q) i, o .1);
+  search = λ κs a o u p q. λ i. ((p ∙ sym q) i, o .1);
+  in-range = λ κs a o u p q. λ i. ((p ∙ sym q) i, o .1);
+  lengths-fit = λ κs a o u p q. λ i. ((p ∙ sym q) i, o .1);
+  with-counts = λ κs a o u p q. λ i. ((p ∙ sym q) i, o .1);
+  clear-sums = λ κs a o u p q. λ i. (o .0, ((p ∙ sym q) i, tt));
+  is-sound = λ κs a o u p q. λ i. ((p ∙ sym q) i, o .1);
+  refusal-of = λ κs a o u p q. λ i. ((p ∙ sym q) i, o .1);
+  add-row = λ κs a o u p q. λ i. ((p .points-are ∙ sym (q .points-are)) i, (tt, (tt, ((p .keys-are ∙ sym (q .keys-are)) i, ((p .sums-are ∙ sym (q .sums-are)) i, ((p .index-are ∙ sym (q .index-are)) i, (tt, (tt, (tt, tt)))))))));
+  is-new = λ κs a o u p q. λ i. ((p ∙ sym q) i, o .1);
+  set-pair = λ κs a o u p q. λ i. (o .0, ((p ∙ sym q) i, (tt, (tt, (tt, tt)))));
+  raise-pair = λ κs a o u p q. λ i. (o .0, ((p ∙ sym q) i, (tt, (tt, (tt, tt)))));
+  enter-one = λ κs a o u p q. λ i. (record { number = (p .number-is ∙ sym (q .number-is)) i; head = (p .head-is ∙ sym (q .head-is)) i }, (tt, ((p .keys-are ∙ sym (q .keys-are)) i, ((p .sums-are ∙ sym (q .sums-are)) i, ((p .index-are ∙ sym (q .index-are)) i, (tt, tt))))));
+  pair-of = λ κs a o u p q. λ i. (record { stored = (p .stored-is ∙ sym (q .stored-is)) i; mass = (p .mass-is ∙ sym (q .mass-is)) i; value = (p .value-is ∙ sym (q .value-is)) i }, o .1);
+  blur = λ κs a o u p q. λ i. (o .0, (tt, (tt, (tt, (tt, ((p .first-is ∙ sym (q .first-is)) i, ((p .second-is ∙ sym (q .second-is)) i, tt)))))));
+  reply-at = λ κs a o u p q. λ i. (record { value = (p .value-is ∙ sym (q .value-is)) i; code = (p .code-is ∙ sym (q .code-is)) i }, o .1);
+  reply-all = λ κs a o u p q. λ i. (o .0, (tt, (tt, (tt, (tt, (tt, ((p .values-are ∙ sym (q .values-are)) i, ((p .codes-are ∙ sym (q .codes-are)) i, tt))))))));
+  row-of = λ κs a o u p q. λ i. ((p ∙ sym q) i, o .1);
+  kind-of = λ κs a o u p q. λ i. ((p ∙ sym q) i, o .1);
+  fours-of = λ κs a o u p q. λ i. ((p ∙ sym q) i, o .1);
+  body-length = λ κs a o u p q. λ i. ((p ∙ sym q) i, o .1);
+  is-listed = λ κs a o u p q. λ i. ((p ∙ sym q) i, o .1);
+  is-placed = λ κs a o u p q. λ i. ((p ∙ sym q) i, o .1);
+  of-dimension = λ κs a o u p q. λ i. ((p ∙ sym q) i, o .1);
+  settings-of = λ κs a o u p q. λ i. ((p ∙ sym q) i, o .1);
+  dimension-of = λ κs a o u p q. λ i. ((p ∙ sym q) i, o .1);
+  found-at = λ κs a o u p q. λ i. ((p ∙ sym q) i, o .1);
+  number-of = λ κs a o u p q. λ i. ((p ∙ sym q) i, o .1);
+  content-at = λ κs a o u p q. λ i. ((p .means-is ∙ sym (q .means-is)) i, (tt, (tt, (tt, ((p .after-is ∙ sym (q .after-is)) i, tt)))));
+  number-meant = λ κs a o u p q. λ i. ((p ∙ sym q) i, o .1);
+  put-line = λ κs a o u p q. λ i. ((p .next-is ∙ sym (q .next-is)) i, ((p .after-is ∙ sym (q .after-is)) i, (tt, (tt, (tt, tt)))));
+}
