@@ -1,9 +1,9 @@
-//! Document 01's refusal numbers, each under a name. A step that may be refused hands back `Result<_, u8>` with one
-//! of them, so that `?` keeps the order in which the document tests.
+//! Document 01's refusal numbers and those that ticket 8 of document 02 adds, each under a name. A step that may be
+//! refused hands back `Result<_, u8>` with one of them, so that `?` keeps the order in which the documents test.
 
 /// A call that is done, or a query that is answered.
 pub const DONE: u8 = 0;
-/// d, S or C out of range.
+/// d, S or C out of range, or the room B of a book.
 pub const SETTINGS: u8 = 1;
 /// A lent slice of another length than the settings give, or a list that is not whole items.
 pub const LENGTH: u8 = 2;
@@ -15,7 +15,7 @@ pub const COORDINATE: u8 = 4;
 pub const OFF_HYPERPLANE: u8 = 5;
 /// A value beyond ±1,000,000.
 pub const VALUE: u8 = 6;
-/// More than 4,096 readings would be held.
+/// More than 4,096 readings would be held, or in a table with a book more than B.
 pub const READINGS: u8 = 7;
 /// More than C points would be stored.
 pub const POINTS: u8 = 8;
@@ -35,3 +35,7 @@ pub const DIMENSION: u8 = 14;
 pub const CUT_SHORT: u8 = 15;
 /// Program: log over 16,384 bytes, or C over 512.
 pub const PROGRAM: u8 = 16;
+/// Withdraw: number not held.
+pub const NOT_HELD: u8 = 19;
+/// Enter and merge with a book: number held already.
+pub const HELD: u8 = 20;
