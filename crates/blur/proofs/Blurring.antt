@@ -7,6 +7,7 @@ use lib.IntN.{ℤ, pos}
 use lib.ListN.{length, take, replicate, length-replicate}
 use Rattle.whole.specs.Size.{Abs≤}
 use Rattle.whole.specs.Lists.{at, splice}
+use Rattle.whole.proofs.Lists.{zeros}
 use Rattle.lattice.specs.Limits.{most-d, farthest-point}
 use Rattle.table.specs.Table.{Settings, Table, Row, row}
 use Rattle.table.specs.Sound.{Good}
@@ -15,7 +16,7 @@ use Rattle.table.proofs.Theorems.{sums-small}
 use Rattle.blur.specs.Sheet.{sheetAfter, withSums}
 use Rattle.blur.specs.Inner.{most-sum, Movable, Readable, Blurrable, Sheets, Blurred}
 use Rattle.blur.proofs.Copying.{copied-length, copied-in, copied-past}
-use Rattle.blur.proofs.Sheets.{zeros, each-place}
+use Rattle.blur.proofs.Sheets.{each-place}
 use Rattle.blur.proofs.Turning.{own-sheet, own-sheets}
 use Rattle.blur.proofs.Stored.{fine-readable, sheet-readable}
 

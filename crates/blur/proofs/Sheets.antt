@@ -10,9 +10,10 @@ use native.Mathlib.Decide.{decLt, decLe}
 use native.Mathlib.Omega.{arith}
 use lib.Dec.{ltb}
 use lib.IntN.{ℤ, pos}
-use lib.ListN.{length, replicate, length-append, length-replicate, getD-replicate, List·getD-append, List·getD-eq-default}
+use lib.ListN.{length, replicate, length-append, length-replicate, List·getD-append}
 use lib.Seq.{getD-append-add, ext-getD}
 use Rattle.whole.specs.Lists.{at, collect}
+use Rattle.whole.proofs.Lists.{zeros}
 use Rattle.index.proofs.Finding.{finds-exactly}
 use Rattle.table.specs.Table.{Settings, Table, key, entry, found, pairAt, held}
 use Rattle.table.proofs.Rows.{pair-path}
@@ -47,14 +48,6 @@ pairs-value (suc n) f g i l = go (eq-or-lt-of-le (le-of-suc-le-suc l)) (pairs-va
     go : (i ≡ n) ⊎ (i < n) → (i < n → at (collect n (λ i. f i ∷ g i ∷ [])) (2 * i + 1) ≡ g i) → at (collect n (λ i. f i ∷ g i ∷ []) ++ (f n ∷ g n ∷ [])) (2 * i + 1) ≡ g i
     go (inl e) ih = past (collect n (λ i. f i ∷ g i ∷ [])) (f n ∷ g n ∷ []) (2 * n) 1 (2 * i + 1) (pairs-length n f g) (omega arith) ∙ ap g (sym e)
     go (inr h) ih = List·getD-append (collect n (λ i. f i ∷ g i ∷ [])) (f n ∷ g n ∷ []) (pos 0) (2 * i + 1) (omega (arith, pairs-length n f g)) ∙ ih h
-
--- a sheet of 0 reads 0 at every place
-pub zeros : (n i : ℕ) → at (replicate n (pos 0)) i ≡ pos 0
-zeros n i = go (decLt i n)
-  where
-    go : Dec (i < n) → at (replicate n (pos 0)) i ≡ pos 0
-    go (yes l) = getD-replicate n i (pos 0) (pos 0) l
-    go (no l) = List·getD-eq-default (replicate n (pos 0)) (pos 0) (omega (arith, length-replicate n (pos 0)))
 
 -- what holds at the two places of each of m pairs and at every place past them holds at every place
 pub each-place : (Q : ℕ → Type 0) (m : ℕ) → ((i : ℕ) → i < m → Q (2 * i)) → ((i : ℕ) → i < m → Q (2 * i + 1)) → ((j : ℕ) → 2 * m ≤ j → Q j) → (j : ℕ) → Q j

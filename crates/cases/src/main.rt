@@ -1,12 +1,13 @@
 // The small numbers of document 01, run through the compiled library. A position is printed with the
 // points of weight above 0 for it and their weights, or with the number by which it is refused; a
 // quotient with what it is rounded to; a division with its remainder; a list of readings with how many
-// were taken, the number, and the table; and the filter with its sheets and answers. What this prints is
-// held to the file stdout beside src/. Its numbers are the document's, but for the one point of
-// (1000000,-1000000): the document says only that it is taken, and as a lattice point it has all of W.
-// The filter is also run on a table of no readings, and with one query where there are five values,
-// which is number 2 and leaves everything as it was. Last come logs, each with the report that dyemap
-// prints for it.
+// were taken, the number, and the table; a reading taken back with the number, the table and its book;
+// and the filter with its sheets and answers. What this prints is held to the file stdout beside src/.
+// Its numbers are the document's, but for the one point of (1000000,-1000000): the document says only
+// that it is taken, and as a lattice point it has all of W. What taking a reading back leaves is
+// document 02's, computed by hand. The filter is also run on a table of no readings, and with one query
+// where there are five values, which is number 2 and leaves everything as it was. Last come logs, each
+// with the report that dyemap prints for it.
 ghost use mathlib.Core.Path.{_≡_};
 ghost use Prim.Native.Nat.{_<_, _≤_};
 ghost use lib.ListN.{length};
@@ -15,6 +16,7 @@ mod filtered;
 mod logs;
 mod print;
 mod tables;
+mod withdrawn;
 
 use crate::filtered::show_filtered;
 use crate::logs::show_logs;
@@ -22,6 +24,7 @@ use crate::print::print_number;
 use crate::print::print_numbers;
 use crate::tables::show_entered;
 use crate::tables::show_merged;
+use crate::withdrawn::show_withdrawn;
 use lattice::position::judge;
 use libc::STDOUT_FILENO;
 use simplex::Simplex;
@@ -133,6 +136,9 @@ fn main() {
     show_remainder(-1, 3);
     show_entered(&[3, -3, 10, 2, -2, 4], 2);
     show_merged(&[2, -2, 4], &[3, -3, 10], 2);
+    show_withdrawn(7);
+    show_withdrawn(-3);
+    show_withdrawn(0);
     show_entered(&[1000000, -1000000, 0], 1);
     show_entered(&[1000001, 0, 0], 1);
     show_entered(&[5, -4, 0], 1);

@@ -54,7 +54,7 @@ fn print_points(keys: &[i32], sums: &[i64], order: &[u16], points: usize) {
 }
 
 // HEAD: d, S, readings, points; then the points in listing order.
-fn print_table(head: Head, keys: &[i32], sums: &[i64], index: &[u16], order: &mut [u16]) {
+pub fn print_table(head: Head, keys: &[i32], sums: &[i64], index: &[u16], order: &mut [u16]) {
     let number = list(head, keys, sums, index, order);
     if number != 0 {
         return;

@@ -1,5 +1,4 @@
 pub mod Refusing
-pub mod Slots
-pub mod Spreading
-pub mod Going
+pub mod Taking
 pub mod Calling
+pub mod Going

@@ -5,7 +5,7 @@
 // these declarations say: c/vimrothi.h has what it owes.
 ghost use Rattle.table.specs.Table.{Settings};
 ghost use Rattle.table.specs.Calls.{freshRefusal, afterFresh, enter, mergeRefusal, afterMerge};
-ghost use Rattle.table.specs.Heads.{lentIn, settings, tableIn, AnswersIn, EntersIn};
+ghost use Rattle.table.specs.Heads.{lentIn, headOf, settings, tableIn, AnswersIn, EntersIn};
 ghost use Rattle.listing.specs.Listing.{ListsIn};
 ghost use Rattle.filter.specs.Filter.{FiltersIn};
 ghost use Rattle.log.specs.Loading.{LoadsIn, load};
@@ -30,7 +30,7 @@ pub extern "C" fn vimrothi_fresh(
         (let c : Settings = record { d = now (d .entry); S = now (fineness .entry); C = now (capacity .entry) } in
         let t = lentIn keys sums index in
         let after = headFrom (now (d .exit)) (now (fineness .exit)) (now (capacity .exit)) (now (readings .exit)) (now (points .exit)) in
-        AnswersIn c (freshRefusal c t) (afterFresh c t) r after keys sums index)
+        AnswersIn (headOf c) (freshRefusal c t) (afterFresh c t) r after keys sums index)
         ⌝ }
 {
     let made = table::fresh::fresh(*d, *fineness, *capacity, keys, sums, index);
@@ -61,7 +61,7 @@ pub extern "C" fn vimrothi_enter(
         let c = settings head in
         let t = tableIn head keys sums index in
         let after = headFrom (now (d .exit)) (now (fineness .exit)) (now (capacity .exit)) (now (readings .exit)) (now (points .exit)) in
-        EntersIn c (enter c t (now (list .entry))) (now (taken .exit)) r after keys sums index)
+        EntersIn head (enter c t (now (list .entry))) (now (taken .exit)) r after keys sums index)
         ⌝ }
 {
     let head = Head {
@@ -109,7 +109,7 @@ pub extern "C" fn vimrothi_merge(
         let t = tableIn head keys sums index in
         let s = tableIn source «source_keys» «source_sums» «source_index» in
         let after = headFrom (now (d .exit)) (now (fineness .exit)) (now (capacity .exit)) (now (readings .exit)) (now (points .exit)) in
-        AnswersIn c (mergeRefusal c t b s) (afterMerge c t b s) r after keys sums index)
+        AnswersIn head (mergeRefusal c t b s) (afterMerge c t b s) r after keys sums index)
         ⌝ }
 {
     let head = Head {
@@ -232,9 +232,9 @@ pub extern "C" fn vimrothi_load(
     offset: &mut usize,
 ) -> u8
     ensures { λ r. ⌜
-        (let t = lentIn keys sums index in
+        (let o = load (now (log .entry)) (lentIn keys sums index) in
         let after = headFrom (now (d .exit)) (now (fineness .exit)) (now (capacity .exit)) (now (readings .exit)) (now (points .exit)) in
-        LoadsIn (load (now (log .entry)) t) r (now (offset .exit)) after keys sums index)
+        LoadsIn (headOf (o .settings)) o r (now (offset .exit)) after keys sums index)
         ⌝ }
 {
     let loaded = log::load(log, keys, sums, index);

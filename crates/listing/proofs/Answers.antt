@@ -14,6 +14,20 @@ use Rattle.listing.specs.Listing.{order, listRefusal, afterList, Lists}
 use Rattle.listing.specs.Inner.{inOrder, Listable}
 use Rattle.listing.proofs.Listings.{usable-apart}
 
+-- a sound table, and a list of C numbers: what `fill` asks, and what it leaves
+module _ (c : Settings) (t : Table) where
+  pub fillable : (list : List ℕ) → Fine c t → length list ≡ c .C → Listable (c .d) (t .keys) (t .m) list
+  fillable list F size = let m = F .sound .indexed .sparse .room in record {
+    inside = omega (arith, F .shape .keys, mul-le-mul-left (c .d) m);
+    room = omega (arith, size, m);
+    small = omega (arith, F .ranged .C-most, m);
+    apart = usable-apart c t F;
+  }
+
+  pub list-filled : {n : ℕ} {after : List ℕ} → n ≡ c .C → after ≡ inOrder (c .d) (t .keys) (t .m) ++ replicate (n - t .m) 0 → after ≡ order c t ++ replicate (c .C - t .m) 0
+  unfolding order
+  list-filled size p = p ∙ ap (λ (n : ℕ). order c t ++ replicate (n - t .m) 0) size
+
 module _ (c : Settings) (t : Table) (list : List ℕ) where
   pub refused : {number : ℕ} → number ≡ listRefusal c t list → number ≢ 0 → Lists c t list number list
   unfolding afterList
@@ -28,16 +42,8 @@ module _ (c : Settings) (t : Table) (list : List ℕ) where
     usable = let C = called c t (eqb (length list) (c .C)) (sym e ∙ z) in (C .fine, eqb→eq (length list) (c .C) (C .whole))
 
     pub listable : Listable (c .d) (t .keys) (t .m) list
-    listable = let F = usable .0 in let m = F .sound .indexed .sparse .room in record {
-      inside = omega (arith, F .shape .keys, mul-le-mul-left (c .d) m);
-      room = omega (arith, usable .1, m);
-      small = omega (arith, F .ranged .C-most, m);
-      apart = usable-apart c t (usable .0);
-    }
+    listable = fillable c t list (usable .0) (usable .1)
 
     pub done : {after : List ℕ} → after ≡ inOrder (c .d) (t .keys) (t .m) ++ replicate (length list - t .m) 0 → Lists c t list 0 after
-    unfolding afterList order
-    done p = record {
-      number-is = sym (sym e ∙ z);
-      list-is = p ∙ ap (λ (n : ℕ). order c t ++ replicate (n - t .m) 0) (usable .1) ∙ sym (rw (sym e ∙ z, afterList));
-    }
+    unfolding afterList
+    done p = record { number-is = sym (sym e ∙ z); list-is = list-filled c t (usable .1) p ∙ sym (rw (sym e ∙ z, afterList)) }

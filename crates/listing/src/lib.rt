@@ -4,7 +4,7 @@ ghost use Rattle.table.specs.Heads.{settings, tableIn};
 ghost use Rattle.listing.specs.Listing.{ListsIn};
 
 mod compare;
-mod fill;
+pub mod fill;
 mod merge;
 mod sort;
 

@@ -9,7 +9,7 @@ use Rattle.lattice.specs.Limits.{most-readings}
 use Rattle.table.specs.declared.Head.{Head}
 use Rattle.table.specs.Table.{Settings, Table, rows}
 use Rattle.table.specs.Pour.{pour}
-use Rattle.table.specs.Heads.{settings, table, headOf, Holds, Answers}
+use Rattle.table.specs.Heads.{settings, table, withCounts, Holds, Answers}
 use Rattle.table.specs.Calls.{mergeRefusal, afterMerge}
 use Rattle.table.specs.Sound.{Fine}
 use Rattle.table.specs.Inner.{InTurn}
@@ -60,7 +60,7 @@ module _ (h : Head) (keys sums : List ℤ) (index : List ℕ) (b : Settings) (s 
   t = table h keys sums index
 
   abbrev Merges : ℕ → Head → List ℤ → List ℤ → List ℕ → Type 0
-  Merges = Answers c (mergeRefusal c t b s) (afterMerge c t b s)
+  Merges = Answers h (mergeRefusal c t b s) (afterMerge c t b s)
 
   as-given : (x : ℕ) → x ≡ mergeRefusal c t b s → (x ≡ 0 → ⊥) → afterMerge c t b s ≡ t
   as-given zero e n = absurd (n refl)
@@ -69,7 +69,7 @@ module _ (h : Head) (keys sums : List ℤ) (index : List ℕ) (b : Settings) (s 
   pub refused : (x : ℕ) → x ≡ mergeRefusal c t b s → (x ≡ 0 → ⊥) → Merges x h keys sums index
   refused x e n = let a = sym (as-given x e n) in record {
     number-is = e;
-    head-is = ap (headOf c) a;
+    head-is = ap (λ (u : Table). withCounts h (u .n) (u .m)) a;
     keys-are = ap (λ (u : Table). u .keys) a;
     sums-are = ap (λ (u : Table). u .sums) a;
     index-are = ap (λ (u : Table). u .index) a;
@@ -77,7 +77,7 @@ module _ (h : Head) (keys sums : List ℤ) (index : List ℕ) (b : Settings) (s 
 
   pub done : (h′ : Head) (points : ℕ) (keys′ sums′ : List ℤ) (index′ : List ℕ) → 0 ≡ mergeRefusal c t b s
       → Holds (pour c t (firstRows (h .d) (s .keys) (s .sums) (s .m))) points keys′ sums′ index′
-      → h′ ≡ record { d = h .d; fineness = h .fineness; capacity = h .capacity; readings = h .readings + s .n; points = points }
+      → h′ ≡ withCounts h (h .readings + s .n) points
       → Merges 0 h′ keys′ sums′ index′
   done h′ points keys′ sums′ index′ e H q =
       let M = mergeable c t b s (sym e) in
@@ -87,7 +87,7 @@ module _ (h : Head) (keys sums : List ℤ) (index : List ℕ) (b : Settings) (s 
       let m : points ≡ pour c t (rows b s) .m = H .points-are ∙ ap (λ (u : Table). u .m) r in
       record {
         number-is = e;
-        head-is = q ∙ (λ i. record { d = h .d; fineness = h .fineness; capacity = h .capacity; readings = n i; points = m i }) ∙ ap (headOf c) a;
+        head-is = q ∙ (λ i. withCounts h (n i) (m i)) ∙ ap (λ (u : Table). withCounts h (u .n) (u .m)) a;
         keys-are = H .keys-are ∙ ap (λ (u : Table). u .keys) r ∙ ap (λ (u : Table). u .keys) a;
         sums-are = H .sums-are ∙ ap (λ (u : Table). u .sums) r ∙ ap (λ (u : Table). u .sums) a;
         index-are = H .index-are ∙ ap (λ (u : Table). u .index) r ∙ ap (λ (u : Table). u .index) a;

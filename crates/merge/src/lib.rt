@@ -29,7 +29,7 @@ pub fn merge(
         let b = settings source in
         let t = tableIn head keys sums index in
         let s = tableIn source «source_keys» «source_sums» «source_index» in
-        AnswersIn c (mergeRefusal c t b s) (afterMerge c t b s) (r .number) (r .head) keys sums index)
+        AnswersIn head (mergeRefusal c t b s) (afterMerge c t b s) (r .number) (r .head) keys sums index)
         ⌝ }
 {
     let number = merge_refusal(

@@ -28,7 +28,7 @@ use Rattle.pour.proofs.Raising.{raisable}
 abbrev pub passed : Row → Row
 passed r = record { key = r .key; mass = W64 (r .mass); value = W64 (r .value) }
 
-passed-is : (r : Row) → SFits w64 (r .mass) → SFits w64 (r .value) → passed r ≡ r
+pub passed-is : (r : Row) → SFits w64 (r .mass) → SFits w64 (r .value) → passed r ≡ r
 passed-is r f g = λ i. record { key = r .key; mass = toZ-ofZ f i; value = toZ-ofZ g i }
 
 module _ (c : Settings) (t : Table) (r : Row) (A : Addable c t r) where

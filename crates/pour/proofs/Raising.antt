@@ -12,8 +12,8 @@ raisable c t r A i l =
     let new = row-small c t r A in
     record {
       inside = omega (arith, A .kept .shape .sums, A .kept .indexed .sparse .room);
-      mass-there = old .mass-small;
-      value-there = old .value-small;
-      mass-more = new .mass-small;
-      value-more = new .value-small;
+      mass-there = record { abs = omega (arith, old .mass-small .abs) };
+      value-there = record { abs = omega (arith, old .value-small .abs) };
+      mass-more = record { abs = omega (arith, new .mass-small .abs) };
+      value-more = record { abs = omega (arith, new .value-small .abs) };
     }

@@ -6,21 +6,26 @@ use lib.IntN.{ℤ}
 use lib.ListN.{length, set}
 use Rattle.whole.specs.Size.{Abs≤}
 use Rattle.whole.specs.Lists.{at, splice}
-use Rattle.lattice.specs.Limits.{most-C, most-W, most-readings, most-value}
+use Rattle.lattice.specs.Limits.{most-coords, most-C, most-W, most-readings, most-value}
 use Rattle.table.specs.Table.{Row}
 use Rattle.table.specs.Pour.{setPair}
 
--- all the mass that 4,096 readings give
-abbrev pub most-mass : ℕ
-most-mass = most-W * most-readings
+-- what one row of a reading adds to a number of the sums at most
+abbrev pub most-share : ℕ
+most-share = most-W * most-value
 
--- A pair that may be raised: the point has one, and the sums stay far within 64 bits.
+-- as many rows as 4,096 readings have at most: each has one for every remainder
+abbrev pub most-rows : ℕ
+most-rows = most-coords * most-readings
+
+-- A pair that may be raised: the point has one, and its numbers and those that are added are within what so many rows add, so that the sums are far
+-- within 64 bits.
 pub record Raisable (sums : List ℤ) (i : ℕ) (mass value : ℤ) : Type 0 where
   pub inside : 2 * i + 1 < length sums
-  pub mass-there : Abs≤ (at sums (2 * i)) most-mass
-  pub value-there : Abs≤ (at sums (2 * i + 1)) (most-value * most-mass)
-  pub mass-more : Abs≤ mass most-mass
-  pub value-more : Abs≤ value (most-value * most-mass)
+  pub mass-there : Abs≤ (at sums (2 * i)) (most-share * most-rows)
+  pub value-there : Abs≤ (at sums (2 * i + 1)) (most-share * most-rows)
+  pub mass-more : Abs≤ mass (most-share * most-rows)
+  pub value-more : Abs≤ value (most-share * most-rows)
 
 -- A key that may be appended as point m: there is room for its stretch and its pair, and the place is one of the index.
 pub record Appendable (m : ℕ) (keys sums : List ℤ) (index : List ℕ) (place : ℕ) (key : List ℤ) : Type 0 where

@@ -10,7 +10,7 @@ ghost use Rattle.table.specs.Pour.{add, oneIfNew};
 ghost use Rattle.pour.specs.Inner.{Appendable, Appends};
 
 pub mod pair;
-mod stretch;
+pub mod stretch;
 
 use crate::pair::raise_pair;
 use crate::pair::set_pair;

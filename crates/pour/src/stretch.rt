@@ -5,7 +5,7 @@ ghost use lib.ListN.{length};
 ghost use Rattle.whole.specs.Lists.{splice};
 
 // A key into a stretch of its length.
-fn put_key(stretch: &mut [i32], key: &[i32])
+pub fn put_key(stretch: &mut [i32], key: &[i32])
     requires { ⌜ length (now stretch) ≡ length (now key) ⌝ }
     ensures { λ r. ⌜ now (stretch .exit) ≡ now (key .entry) ⌝ }
 {

@@ -13,13 +13,14 @@ use Rattle.whole.specs.Lists.{at, All, Each}
 use Rattle.whole.proofs.Linear.{on, difs, ints}
 use Rattle.whole.proofs.Parts.{le-out}
 use Rattle.whole.proofs.Sum.{over-append}
-use Rattle.lattice.specs.Limits.{most-readings}
+use Rattle.whole.proofs.Size.{of-abs}
+use Rattle.lattice.specs.Limits.{most-value, most-readings}
 use Rattle.lattice.specs.Lattice.{Point}
 use Rattle.lattice.specs.Weight.{weight}
 use Rattle.lattice.specs.Points.{Points, points}
 use Rattle.lattice.proofs.Points.{exactly-these}
 use Rattle.table.specs.Table.{Settings, Table, Row, keysOf, key, row, rows, whole}
-use Rattle.table.specs.Reading.{Reading, share, shares, refusal, entered}
+use Rattle.table.specs.Reading.{Reading, share, shares, Lawful, refusal, entered, massFrom}
 use Rattle.table.specs.Pour.{news}
 use Rattle.table.specs.Calls.{Outcome, enterAll, mergeRefusal, afterMerge}
 use Rattle.table.proofs.Lists.{all-tab, all-list, all-map, all-before, all-after}
@@ -30,8 +31,7 @@ use Rattle.table.proofs.Entering.{enter-yes, enter-all}
 use Rattle.table.proofs.Good.{key-whole}
 use Rattle.listing.specs.Listing.{listed}
 use Rattle.listing.proofs.Rising.{all-perm, perm-length}
-use Rattle.promises.specs.Order.{massFrom}
-use Rattle.promises.specs.Acceptance.{Proper, FitInto}
+use Rattle.promises.specs.Acceptance.{FitInto}
 use Rattle.promises.proofs.Histories.{Built, enter-built, merge-built}
 use Rattle.promises.proofs.LogReadings.{Sized}
 use Rattle.promises.proofs.Refusals.{refusals-exact}
@@ -73,7 +73,7 @@ module _ (d S : ℕ) (y : List ℤ) (rs qs : List Reading) where
 
 -- ---- what is asked of readings, without their listing: keys that have all of their points
 pub record Covers (d S C : ℕ) (rs : List Reading) : Type 0 where
-  pub each : All (Proper d) rs
+  pub each : All (Lawful d) rs
   pub few : length rs ≤ most-readings
   pub keys : List (List ℤ)
   pub has : (y : List ℤ) → Point d y → pos 1 ≤ℤ massFrom d S rs y → Has [] keys (take d y)
@@ -92,7 +92,7 @@ fits-covers d S C rs F = record {
 module _ (d S C : ℕ) (rs qs : List Reading) (O : Covers d S C (rs ++ qs)) where
   pub covers-first : Covers d S C rs
   covers-first = record {
-    each = all-before (Proper d) rs qs (O .each);
+    each = all-before (Lawful d) rs qs (O .each);
     few = omega (arith, O .few, length-append rs qs);
     keys = O .keys;
     has = λ y Y h. O .has y Y (given-after d S y rs qs h);
@@ -101,7 +101,7 @@ module _ (d S C : ℕ) (rs qs : List Reading) (O : Covers d S C (rs ++ qs)) wher
 
   pub covers-second : Covers d S C qs
   covers-second = record {
-    each = all-after (Proper d) rs qs (O .each);
+    each = all-after (Lawful d) rs qs (O .each);
     few = omega (arith, O .few, length-append rs qs);
     keys = O .keys;
     has = λ y Y h. O .has y Y (given-before d S y rs qs h);
@@ -115,7 +115,7 @@ covers-more d S C K rs h O = record { each = O .each; few = O .few; keys = O .ke
 -- it does not depend on their order
 pub covers-perm : (d S C : ℕ) (rs qs : List Reading) → List·Permᴰ rs qs → Covers d S C rs → Covers d S C qs
 covers-perm d S C rs qs p O = record {
-  each = all-perm (Proper d) p (O .each);
+  each = all-perm (Lawful d) p (O .each);
   few = omega (arith, O .few, perm-length p);
   keys = O .keys;
   has = λ y Y h. O .has y Y (rw (over-permᴰ (λ r. pos (weight d S (at (r .position)) (at y))) p) h);
@@ -156,13 +156,13 @@ module _ (c : Settings) (t : Table) (qs rs : List Reading) (r : Reading) (B : Bu
       all-map (λ (a : Row). Has [] (O .keys) (a .key)) (share (c .d) (c .S) r) ps (all-list (λ y. Has [] (O .keys) (take (c .d) y)) ps []
       (λ i l. O .has (getD ps i []) (the-points .point i l) (given-own (getD ps i []) (the-points .heavy i l))))
 
-  own : Proper (c .d) r
-  own = all-after (Proper (c .d)) qs (r ∷ rs) (O .each) .0
+  own : Lawful (c .d) r
+  own = all-after (Lawful (c .d)) qs (r ∷ rs) (O .each) .0
 
   none-met : refusal c t r ≡ 0
   none-met = refusals-exact .reading c t r (own .position .size) .none .1 (
     own .position,
-    own .fair,
+    of-abs (r .value) most-value (own .fair),
     omega (arith, B .counts, O .few, length-append qs (r ∷ rs)),
     room-for c t qs (r ∷ rs) B O (shares (c .d) (c .S) r) (shares-apart (c .d) (c .S) (B .fine .ranged .S-least) r) shares-in,
   )

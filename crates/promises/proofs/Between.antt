@@ -13,13 +13,13 @@ use Rattle.whole.proofs.Ring.{leZ-refl, leZ-trans, leZ-flip}
 use Rattle.lattice.specs.Weight.{geZ, greatest, least, weight}
 use Rattle.lattice.proofs.Spread.{best-is}
 use Rattle.table.specs.Table.{Settings, Table, key, mass, value, whole}
-use Rattle.table.specs.Reading.{Reading}
+use Rattle.table.specs.Reading.{Reading, massFrom, valueFrom}
 use Rattle.table.proofs.Lists.{all-list}
 use Rattle.blur.proofs.Stored.{fine-readable, every-pair}
 use Rattle.filter.specs.Answer.{code, answer}
 use Rattle.filter.proofs.Between.{Bounded, bounded-zero, bounded-plus, bounded-share, all-between}
 use Rattle.filter.proofs.Theorems.{answer-between}
-use Rattle.promises.specs.Order.{massFrom, valueFrom, valueIn, leastIn, greatestIn}
+use Rattle.promises.specs.Order.{valueIn, leastIn, greatestIn}
 use Rattle.promises.proofs.Histories.{Built}
 use Rattle.promises.proofs.Holding.{row-from}
 
@@ -30,7 +30,7 @@ least-below d f i l = let (h, k, e, u) = best-is geZ leZ-refl (λ a b c h k. leZ
 greatest-above : (d : ℕ) (f : ℕ → ℤ) (i : ℕ) → i < suc d → f i ≤ℤ greatest d f
 greatest-above d f i l = let (h, k, e, u) = best-is leZ leZ-refl leZ-trans leZ-flip d f in rw e (leZ-yes (u i l))
 
-values-within : (rs : List Reading) → All (λ r. Within (leastIn rs) (greatestIn rs) (r .value)) rs
+pub values-within : (rs : List Reading) → All (λ r. Within (leastIn rs) (greatestIn rs) (r .value)) rs
 values-within rs = all-list (λ r. Within (leastIn rs) (greatestIn rs) (r .value)) rs none each
   where
     none : Reading
@@ -43,7 +43,7 @@ values-within rs = all-list (λ r. Within (leastIn rs) (greatestIn rs) (r .value
     })
 
 -- ---- what readings give to a point: the value sum lies between lo and hi times the mass, where each value lies between lo and hi
-from-bounded : (lo hi : ℤ) (d S : ℕ) (y : List ℤ) (rs : List Reading) → All (λ r. Within lo hi (r .value)) rs → Bounded lo hi (massFrom d S rs y, valueFrom d S rs y)
+pub from-bounded : (lo hi : ℤ) (d S : ℕ) (y : List ℤ) (rs : List Reading) → All (λ r. Within lo hi (r .value)) rs → Bounded lo hi (massFrom d S rs y, valueFrom d S rs y)
 unfolding over
 from-bounded lo hi d S y [] h = bounded-zero lo hi
 from-bounded lo hi d S y (r ∷ rs) h =

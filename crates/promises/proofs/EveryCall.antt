@@ -12,7 +12,7 @@ use Rattle.whole.specs.Lists.{splice}
 use Rattle.table.specs.declared.Head.{Head}
 use Rattle.table.specs.Table.{Settings, Table}
 use Rattle.table.specs.Calls.{lent, freshRefusal, afterFresh, enter, mergeRefusal, afterMerge}
-use Rattle.table.specs.Heads.{settings, table, headOf, Answers, Enters}
+use Rattle.table.specs.Heads.{settings, table, headOf, withCounts, Answers, Enters}
 use Rattle.table.proofs.Calls.{fresh-refused, enter-refused, merge-refused}
 use Rattle.listing.specs.Listing.{listRefusal, afterList, Lists}
 use Rattle.filter.specs.Filter.{Lent, filterRefusal, afterFilter, Filters}
@@ -22,6 +22,9 @@ use Rattle.log.specs.Loading.{load, Loads}
 use Rattle.report.specs.Report.{report, fitting, Reports}
 use Rattle.export.specs.Numbers as numbers
 use Rattle.promises.specs.Contracts.{Only, One, Ensures, Requires, AnswerAndMemory, Allows, Answering}
+use Rattle.book.specs.Book.{Booked}
+use Rattle.book.specs.Calls.{withdrawRefusal, afterWithdraw}
+use Rattle.book.specs.Heads.{booked, AnswersBook}
 use Rattle.promises.specs.EveryCall.{EveryCallOne, ReaderOne, ReaderSays, RefusedLeavesAll}
 
 -- ---- what a call on a table answers and leaves
@@ -32,15 +35,15 @@ record Left : Type 0 where
   sums : List ℤ
   index : List ℕ
 
-abbrev AnswerAllows : Settings → ℕ → Table → Left → Type 0
-AnswerAllows c x t o = Answers c x t (o .number) (o .head) (o .keys) (o .sums) (o .index)
+abbrev AnswerAllows : Head → ℕ → Table → Left → Type 0
+AnswerAllows h x t o = Answers h x t (o .number) (o .head) (o .keys) (o .sums) (o .index)
 
--- the outcome of a call of number x that hands back the head of t and leaves the memory of t
-abbrev leftOf : Settings → ℕ → Table → Left
-leftOf c x t = record { number = x; head = headOf c t; keys = t .keys; sums = t .sums; index = t .index }
+-- the outcome of a call of number x that hands back the head h with the counts of t and leaves the memory of t
+abbrev leftOf : Head → ℕ → Table → Left
+leftOf h x t = record { number = x; head = withCounts h (t .n) (t .m); keys = t .keys; sums = t .sums; index = t .index }
 
-answers-only : (c : Settings) (x : ℕ) (t : Table) → Only (AnswerAllows c x t)
-answers-only c x t a b A B = λ i. record {
+answers-only : (h : Head) (x : ℕ) (t : Table) → Only (AnswerAllows h x t)
+answers-only h x t a b A B = λ i. record {
   number = (A .number-is ∙ sym (B .number-is)) i;
   head = (A .head-is ∙ sym (B .head-is)) i;
   keys = (A .keys-are ∙ sym (B .keys-are)) i;
@@ -48,24 +51,31 @@ answers-only c x t a b A B = λ i. record {
   index = (A .index-are ∙ sym (B .index-are)) i;
 }
 
-answers-allowed : (c : Settings) (x : ℕ) (t : Table) → AnswerAllows c x t (leftOf c x t)
-answers-allowed c x t = record { number-is = refl; head-is = refl; keys-are = refl; sums-are = refl; index-are = refl }
+answers-allowed : (h : Head) (x : ℕ) (t : Table) → AnswerAllows h x t (leftOf h x t)
+answers-allowed h x t = record { number-is = refl; head-is = refl; keys-are = refl; sums-are = refl; index-are = refl }
 
-answers-one : (c : Settings) (x : ℕ) (t : Table) → One (AnswerAllows c x t)
-answers-one c x t = record { outcome = leftOf c x t; allowed = answers-allowed c x t; only = answers-only c x t }
+answers-one : (h : Head) (x : ℕ) (t : Table) → One (AnswerAllows h x t)
+answers-one h x t = record { outcome = leftOf h x t; allowed = answers-allowed h x t; only = answers-only h x t }
 
-enters-one : (c : Settings) (t : Table) (l : List ℤ) → One (λ (o : ℕ × Left). Enters c (enter c t l) (o .0) (o .1 .number) (o .1 .head) (o .1 .keys) (o .1 .sums) (o .1 .index))
-enters-one c t l = let o = enter c t l in record {
-  outcome = (o .taken, leftOf c (o .number) (o .table));
-  allowed = record { taken-is = refl; answers = answers-allowed c (o .number) (o .table) };
-  only = λ a b A B. λ i. ((A .taken-is ∙ sym (B .taken-is)) i, answers-only c (o .number) (o .table) (a .1) (b .1) (A .answers) (B .answers) i);
+enters-one : (h : Head) (t : Table) (l : List ℤ) → One (λ (o : ℕ × Left). Enters h (enter (settings h) t l) (o .0) (o .1 .number) (o .1 .head) (o .1 .keys) (o .1 .sums) (o .1 .index))
+enters-one h t l = let o = enter (settings h) t l in record {
+  outcome = (o .taken, leftOf h (o .number) (o .table));
+  allowed = record { taken-is = refl; answers = answers-allowed h (o .number) (o .table) };
+  only = λ a b A B. λ i. ((A .taken-is ∙ sym (B .taken-is)) i, answers-only h (o .number) (o .table) (a .1) (b .1) (A .answers) (B .answers) i);
 }
 
-loads-one : (l : List ℕ) (t : Table) → One (λ (o : ℕ × Left). Loads (load l t) (o .1 .number) (o .0) (o .1 .head) (o .1 .keys) (o .1 .sums) (o .1 .index))
-loads-one l t = let o = load l t in record {
-  outcome = (o .offset, leftOf (o .settings) (o .number) (o .table));
-  allowed = record { offset-is = refl; answers = answers-allowed (o .settings) (o .number) (o .table) };
-  only = λ a b A B. λ i. ((A .offset-is ∙ sym (B .offset-is)) i, answers-only (o .settings) (o .number) (o .table) (a .1) (b .1) (A .answers) (B .answers) i);
+loads-one : (l : List ℕ) (t : Table) → One (λ (o : ℕ × Left). Loads (headOf (load l t .settings)) (load l t) (o .1 .number) (o .0) (o .1 .head) (o .1 .keys) (o .1 .sums) (o .1 .index))
+loads-one l t = let o = load l t in let h = headOf (o .settings) in record {
+  outcome = (o .offset, leftOf h (o .number) (o .table));
+  allowed = record { offset-is = refl; answers = answers-allowed h (o .number) (o .table) };
+  only = λ a b A B. λ i. ((A .offset-is ∙ sym (B .offset-is)) i, answers-only h (o .number) (o .table) (a .1) (b .1) (A .answers) (B .answers) i);
+}
+
+answers-book-one : (h : Head) (x : ℕ) (b : Booked) → One (λ (o : Left × List ℤ). AnswersBook h x b (o .0 .number) (o .0 .head) (o .0 .keys) (o .0 .sums) (o .0 .index) (o .1))
+answers-book-one h x b = record {
+  outcome = (leftOf h x (b .table), b .book);
+  allowed = record { answers = answers-allowed h x (b .table); book-is = refl };
+  only = λ o u A B. λ i. (answers-only h x (b .table) (o .0) (u .0) (A .answers) (B .answers) i, (A .book-is ∙ sym (B .book-is)) i);
 }
 
 -- ---- calls that leave lists
@@ -122,19 +132,25 @@ every-call-one = record {
       (λ o. (record { number = o .number; head = o .head }, (tt, (tt, (tt, (o .keys, (o .sums, (o .index, tt))))))))
       (λ o. refl)
       (λ o. refl)
-      (let c : Settings = record { d = (a .0); S = (a .1 .0); C = (a .1 .1 .0) } in let t = lent (now (a .1 .1 .1 .0)) (now (a .1 .1 .1 .1 .0)) (now (a .1 .1 .1 .1 .1 .0)) in answers-one c (freshRefusal c t) (afterFresh c t))) (λ κs a o p. p) (λ κs a. tt);
+      (let c : Settings = record { d = (a .0); S = (a .1 .0); C = (a .1 .1 .0) } in let t = lent (now (a .1 .1 .1 .0)) (now (a .1 .1 .1 .1 .0)) (now (a .1 .1 .1 .1 .1 .0)) in answers-one (headOf c) (freshRefusal c t) (afterFresh c t))) (λ κs a o p. p) (λ κs a. tt);
   enter = answering (λ κs a. one-retold
       (λ o. (o .0 .taken, record { number = o .0 .number; head = o .0 .head; keys = o .1 .1 .0; sums = o .1 .1 .1 .0; index = o .1 .1 .1 .1 .0 }))
       (λ o. (record { taken = o .0; number = o .1 .number; head = o .1 .head }, (tt, (o .1 .keys, (o .1 .sums, (o .1 .index, (tt, tt)))))))
       (λ o. refl)
       (λ o. refl)
-      (enters-one (settings (a .0)) (table (a .0) (now (a .1 .0)) (now (a .1 .1 .0)) (now (a .1 .1 .1 .0))) (now (a .1 .1 .1 .1 .0)))) (λ κs a o p. p) (λ κs a. tt);
+      (enters-one (a .0) (table (a .0) (now (a .1 .0)) (now (a .1 .1 .0)) (now (a .1 .1 .1 .0))) (now (a .1 .1 .1 .1 .0)))) (λ κs a o p. p) (λ κs a. tt);
   merge = answering (λ κs a. one-retold
       (λ o. record { number = o .0 .number; head = o .0 .head; keys = o .1 .1 .0; sums = o .1 .1 .1 .0; index = o .1 .1 .1 .1 .0 })
       (λ o. (record { number = o .number; head = o .head }, (tt, (o .keys, (o .sums, (o .index, (tt, (tt, (tt, (tt, tt))))))))))
       (λ o. refl)
       (λ o. refl)
-      (let c = settings (a .0) in let t = table (a .0) (now (a .1 .0)) (now (a .1 .1 .0)) (now (a .1 .1 .1 .0)) in let b = settings (a .1 .1 .1 .1 .0) in let s = table (a .1 .1 .1 .1 .0) (now (a .1 .1 .1 .1 .1 .0)) (now (a .1 .1 .1 .1 .1 .1 .0)) (now (a .1 .1 .1 .1 .1 .1 .1 .0)) in answers-one c (mergeRefusal c t b s) (afterMerge c t b s))) (λ κs a o p. p) (λ κs a. tt);
+      (let c = settings (a .0) in let t = table (a .0) (now (a .1 .0)) (now (a .1 .1 .0)) (now (a .1 .1 .1 .0)) in let b = settings (a .1 .1 .1 .1 .0) in let s = table (a .1 .1 .1 .1 .0) (now (a .1 .1 .1 .1 .1 .0)) (now (a .1 .1 .1 .1 .1 .1 .0)) (now (a .1 .1 .1 .1 .1 .1 .1 .0)) in answers-one (a .0) (mergeRefusal c t b s) (afterMerge c t b s))) (λ κs a o p. p) (λ κs a. tt);
+  withdraw = answering (λ κs a. one-retold
+      (λ o. (record { number = o .0 .number; head = o .0 .head; keys = o .1 .1 .1 .0; sums = o .1 .1 .1 .1 .0; index = o .1 .1 .1 .1 .1 .0 }, o .1 .1 .1 .1 .1 .1 .0))
+      (λ o. (record { number = o .0 .number; head = o .0 .head }, (tt, (tt, (o .0 .keys, (o .0 .sums, (o .0 .index, (o .1, (tt, tt)))))))))
+      (λ o. refl)
+      (λ o. refl)
+      (let c = settings (a .0) in let b = booked (a .0) (a .1 .0) (now (a .1 .1 .0)) (now (a .1 .1 .1 .0)) (now (a .1 .1 .1 .1 .0)) (now (a .1 .1 .1 .1 .1 .0)) in let k = a .1 .1 .1 .1 .1 .1 .0 in answers-book-one (a .0) (withdrawRefusal c b k) (afterWithdraw c b k))) (λ κs a o p. p) (λ κs a. tt);
   list = answering (λ κs a. one-retold
       (λ o. (o .0, o .1 .1 .1 .1 .1 .0))
       (λ o. (o .0, (tt, (tt, (tt, (tt, (o .1, tt)))))))
@@ -164,19 +180,19 @@ every-call-one = record {
       (λ o. (o .number, (o .head .d, (o .head .fineness, (o .head .capacity, (o .head .readings, (o .head .points, (o .keys, (o .sums, (o .index, tt))))))))))
       (λ o. refl)
       (λ o. refl)
-      (let c : Settings = record { d = (now (a .0)); S = (now (a .1 .0)); C = (now (a .1 .1 .0)) } in let t = lent (now (a .1 .1 .1 .1 .1 .0)) (now (a .1 .1 .1 .1 .1 .1 .0)) (now (a .1 .1 .1 .1 .1 .1 .1 .0)) in answers-one c (freshRefusal c t) (afterFresh c t))) (λ κs a o p. p) (λ κs a. tt);
+      (let c : Settings = record { d = (now (a .0)); S = (now (a .1 .0)); C = (now (a .1 .1 .0)) } in let t = lent (now (a .1 .1 .1 .1 .1 .0)) (now (a .1 .1 .1 .1 .1 .1 .0)) (now (a .1 .1 .1 .1 .1 .1 .1 .0)) in answers-one (headOf c) (freshRefusal c t) (afterFresh c t))) (λ κs a o p. p) (λ κs a. tt);
   vimrothi-enter = answering (λ κs a. one-retold
       (λ o. (o .1 .1 .1 .1 .1 .1 .1 .1 .1 .1 .0, record { number = o .0; head = numbers.headFrom (o .1 .0) (o .1 .1 .0) (o .1 .1 .1 .0) (o .1 .1 .1 .1 .0) (o .1 .1 .1 .1 .1 .0); keys = o .1 .1 .1 .1 .1 .1 .0; sums = o .1 .1 .1 .1 .1 .1 .1 .0; index = o .1 .1 .1 .1 .1 .1 .1 .1 .0 }))
       (λ o. (o .1 .number, (o .1 .head .d, (o .1 .head .fineness, (o .1 .head .capacity, (o .1 .head .readings, (o .1 .head .points, (o .1 .keys, (o .1 .sums, (o .1 .index, (tt, (o .0, tt))))))))))))
       (λ o. refl)
       (λ o. refl)
-      (let h = (numbers.headFrom (now (a .0)) (now (a .1 .0)) (now (a .1 .1 .0)) (now (a .1 .1 .1 .0)) (now (a .1 .1 .1 .1 .0))) in enters-one (settings h) (table h (now (a .1 .1 .1 .1 .1 .0)) (now (a .1 .1 .1 .1 .1 .1 .0)) (now (a .1 .1 .1 .1 .1 .1 .1 .0))) (now (a .1 .1 .1 .1 .1 .1 .1 .1 .0)))) (λ κs a o p. p) (λ κs a. tt);
+      (let h = (numbers.headFrom (now (a .0)) (now (a .1 .0)) (now (a .1 .1 .0)) (now (a .1 .1 .1 .0)) (now (a .1 .1 .1 .1 .0))) in enters-one h (table h (now (a .1 .1 .1 .1 .1 .0)) (now (a .1 .1 .1 .1 .1 .1 .0)) (now (a .1 .1 .1 .1 .1 .1 .1 .0))) (now (a .1 .1 .1 .1 .1 .1 .1 .1 .0)))) (λ κs a o p. p) (λ κs a. tt);
   vimrothi-merge = answering (λ κs a. one-retold
       (λ o. record { number = o .0; head = numbers.headFrom (o .1 .0) (o .1 .1 .0) (o .1 .1 .1 .0) (o .1 .1 .1 .1 .0) (o .1 .1 .1 .1 .1 .0); keys = o .1 .1 .1 .1 .1 .1 .0; sums = o .1 .1 .1 .1 .1 .1 .1 .0; index = o .1 .1 .1 .1 .1 .1 .1 .1 .0 })
       (λ o. (o .number, (o .head .d, (o .head .fineness, (o .head .capacity, (o .head .readings, (o .head .points, (o .keys, (o .sums, (o .index, (tt, (tt, (tt, (tt, (tt, (tt, (tt, (tt, tt))))))))))))))))))
       (λ o. refl)
       (λ o. refl)
-      (let h = (numbers.headFrom (now (a .0)) (now (a .1 .0)) (now (a .1 .1 .0)) (now (a .1 .1 .1 .0)) (now (a .1 .1 .1 .1 .0))) in let g = (numbers.headFrom (a .1 .1 .1 .1 .1 .1 .1 .1 .0) (a .1 .1 .1 .1 .1 .1 .1 .1 .1 .0) (a .1 .1 .1 .1 .1 .1 .1 .1 .1 .1 .0) (a .1 .1 .1 .1 .1 .1 .1 .1 .1 .1 .1 .0) (a .1 .1 .1 .1 .1 .1 .1 .1 .1 .1 .1 .1 .0)) in let c = settings h in let t = table h (now (a .1 .1 .1 .1 .1 .0)) (now (a .1 .1 .1 .1 .1 .1 .0)) (now (a .1 .1 .1 .1 .1 .1 .1 .0)) in let b = settings g in let s = table g (now (a .1 .1 .1 .1 .1 .1 .1 .1 .1 .1 .1 .1 .1 .0)) (now (a .1 .1 .1 .1 .1 .1 .1 .1 .1 .1 .1 .1 .1 .1 .0)) (now (a .1 .1 .1 .1 .1 .1 .1 .1 .1 .1 .1 .1 .1 .1 .1 .0)) in answers-one c (mergeRefusal c t b s) (afterMerge c t b s))) (λ κs a o p. p) (λ κs a. tt);
+      (let h = (numbers.headFrom (now (a .0)) (now (a .1 .0)) (now (a .1 .1 .0)) (now (a .1 .1 .1 .0)) (now (a .1 .1 .1 .1 .0))) in let g = (numbers.headFrom (a .1 .1 .1 .1 .1 .1 .1 .1 .0) (a .1 .1 .1 .1 .1 .1 .1 .1 .1 .0) (a .1 .1 .1 .1 .1 .1 .1 .1 .1 .1 .0) (a .1 .1 .1 .1 .1 .1 .1 .1 .1 .1 .1 .0) (a .1 .1 .1 .1 .1 .1 .1 .1 .1 .1 .1 .1 .0)) in let c = settings h in let t = table h (now (a .1 .1 .1 .1 .1 .0)) (now (a .1 .1 .1 .1 .1 .1 .0)) (now (a .1 .1 .1 .1 .1 .1 .1 .0)) in let b = settings g in let s = table g (now (a .1 .1 .1 .1 .1 .1 .1 .1 .1 .1 .1 .1 .1 .0)) (now (a .1 .1 .1 .1 .1 .1 .1 .1 .1 .1 .1 .1 .1 .1 .0)) (now (a .1 .1 .1 .1 .1 .1 .1 .1 .1 .1 .1 .1 .1 .1 .1 .0)) in answers-one h (mergeRefusal c t b s) (afterMerge c t b s))) (λ κs a o p. p) (λ κs a. tt);
   vimrothi-list = answering (λ κs a. one-retold
       (λ o. (o .0, o .1 .1 .1 .1 .1 .1 .1 .1 .1 .0))
       (λ o. (o .0, (tt, (tt, (tt, (tt, (tt, (tt, (tt, (tt, (o .1, tt)))))))))))

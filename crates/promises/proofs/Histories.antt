@@ -10,11 +10,9 @@ use lib.Seq.{take-all, length-take-le}
 use Rattle.whole.specs.Sum.{over}
 use Rattle.whole.specs.Lists.{tab, All}
 use Rattle.whole.proofs.Sum.{over-append}
-use Rattle.whole.proofs.Size.{of-abs}
-use Rattle.lattice.specs.Limits.{most-value}
 use Rattle.lattice.specs.Refusals.{other-length}
 use Rattle.table.specs.Table.{Settings, Table, Row, rows}
-use Rattle.table.specs.Reading.{Reading, parsed, shares}
+use Rattle.table.specs.Reading.{Reading, parsed, shares, Lawful}
 use Rattle.table.specs.Calls.{ranged, fits, freshRefusal, fresh, Outcome, enterAll, enterRefusal, enter, mergeRefusal, afterMerge}
 use Rattle.table.specs.Sound.{Ranged, Fine}
 use Rattle.table.proofs.Rows.{Additive}
@@ -32,7 +30,6 @@ use Rattle.log.specs.Theorems.{tableOf}
 use Rattle.log.proofs.Leaving.{load-accepted, start-zero}
 use Rattle.promises.specs.History.{History, starting, entering, merging, offering, loading, capacity, settingsIn, run, Begun, taken, readings}
 use Rattle.promises.specs.Order.{AllTaken}
-use Rattle.promises.specs.Acceptance.{Proper}
 use Rattle.promises.proofs.Refusals.{enterAll-stops}
 use Rattle.promises.proofs.Stopping.{load-stops, load-reads}
 use Rattle.promises.proofs.LogReadings.{Sized, log-sized}
@@ -41,19 +38,19 @@ use Rattle.promises.proofs.LogReadings.{Sized, log-sized}
 pub record Built (c : Settings) (t : Table) (rs : List Reading) : Type 0 where
   pub fine : Fine c t
   pub counts : t .n ≡ length rs
-  pub proper : All (Proper (c .d)) rs
+  pub proper : All (Lawful (c .d)) rs
   pub sums : (f : Row → ℤ) → Additive f → over (rows c t) f ≡ over rs (λ r. over (shares (c .d) (c .S) r) f)
 
 -- ---- readings that are all taken are within their own limits
-all-proper : (c : Settings) (rs : List Reading) (t : Table) → Sized (c .d) rs → enterAll c t rs .number ≡ 0 → All (Proper (c .d)) rs
-all-proper c = enter-ind c (λ t rs o. Sized (c .d) rs → o .number ≡ 0 → All (Proper (c .d)) rs)
+all-proper : (c : Settings) (rs : List Reading) (t : Table) → Sized (c .d) rs → enterAll c t rs .number ≡ 0 → All (Lawful (c .d)) rs
+all-proper c = enter-ind c (λ t rs o. Sized (c .d) rs → o .number ≡ 0 → All (Lawful (c .d)) rs)
     (λ t z e. tt)
     (λ t r rs x p z e. absurd (omega arith))
     (λ t r rs p ih z e.
     let A = accepted c t r (z .0) p in
-    (record { position = A .position; fair = of-abs (r .value) most-value (A .fair) }, ih (z .1) e))
+    (record { position = A .position; fair = A .fair }, ih (z .1) e))
 
-taken-proper : (c : Settings) (t : Table) (rs : List Reading) → Sized (c .d) rs → All (Proper (c .d)) (take (enterAll c t rs .taken) rs)
+taken-proper : (c : Settings) (t : Table) (rs : List Reading) → Sized (c .d) rs → All (Lawful (c .d)) (take (enterAll c t rs .taken) rs)
 taken-proper c t rs z =
     let k = enterAll c t rs .taken in
     all-proper c (take k rs) t (all-take (λ r. length (r .position) ≡ suc (c .d)) k rs z) (ap (λ (o : Outcome). o .number) (enterAll-stops c rs t .those-taken))
@@ -79,7 +76,7 @@ enter-built c t rs qs B z =
     record {
       fine = A .fine;
       counts = A .count ∙ ap₂ _+_ (B .counts) (sym n) ∙ sym (length-append rs (take k qs));
-      proper = all-append (Proper (c .d)) rs (take k qs) (B .proper) (taken-proper c t qs z);
+      proper = all-append (Lawful (c .d)) rs (take k qs) (B .proper) (taken-proper c t qs z);
       sums = λ f F. A .sums f F ∙ ap (λ (z : ℤ). z +ℤ over (take k qs) (λ r. over (shares (c .d) (c .S) r) f)) (B .sums f F)
           ∙ sym (over-append rs (take k qs) (λ r. over (shares (c .d) (c .S) r) f));
     }
@@ -105,7 +102,7 @@ merge-built c t b s rs qs B E = go (mergeRefusal c t b s) refl
         subst (λ (u : Table). Built c u (rs ++ qs)) (sym (merge-done c t b s e)) (record {
           fine = A .fine;
           counts = A .count ∙ ap₂ _+_ (B .counts) (E .counts) ∙ sym (length-append rs qs);
-          proper = all-append (Proper (c .d)) rs qs (B .proper) (subst (λ (d : ℕ). All (Proper d) qs) (sym (M .same-d)) (E .proper));
+          proper = all-append (Lawful (c .d)) rs qs (B .proper) (subst (λ (d : ℕ). All (Lawful d) qs) (sym (M .same-d)) (E .proper));
           sums = λ f F. A .sums f F ∙ ap₂ _+ℤ_ (B .sums f F) (E .sums f F ∙ same f) ∙ sym (over-append rs qs (λ r. over (shares (c .d) (c .S) r) f));
         })
 

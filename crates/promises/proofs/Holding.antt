@@ -8,14 +8,14 @@ use lib.ListN.{take}
 use Rattle.whole.specs.Sum.{over}
 use Rattle.lattice.specs.Lattice.{Point}
 use Rattle.table.specs.Table.{Settings, Table, key, row, whole, held, massOf}
-use Rattle.table.specs.Reading.{Reading, shares}
+use Rattle.table.specs.Reading.{Reading, shares, massFrom, valueFrom}
 use Rattle.table.proofs.Rows.{valueOf, gives, given}
 use Rattle.table.proofs.Good.{key-whole}
 use Rattle.table.proofs.Soundness.{fine-kept}
 use Rattle.table.proofs.Shares.{share-given}
 use Rattle.table.proofs.Meaning.{gives-additive, held-given}
 use Rattle.blur.proofs.Stored.{fine-readable, own-pair}
-use Rattle.promises.specs.Order.{massFrom, valueFrom, RowFrom}
+use Rattle.promises.specs.Order.{RowFrom}
 use Rattle.promises.proofs.Histories.{Built}
 use Rattle.promises.proofs.Sums.{over-perm}
 

@@ -20,6 +20,7 @@ pub mod Listed
 pub mod Between
 pub mod Total
 pub mod Order
+pub mod Book
 pub mod Acceptance
 pub mod Taking
 pub mod Printing

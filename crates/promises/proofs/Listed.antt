@@ -12,7 +12,7 @@ use Rattle.whole.proofs.Lists.{length-tab, getD-tab}
 use Rattle.lattice.specs.Lattice.{Point}
 use Rattle.lattice.specs.Weight.{weight}
 use Rattle.table.specs.Table.{Settings, Table, Row, keysOf, key, row, whole, found}
-use Rattle.table.specs.Reading.{Reading}
+use Rattle.table.specs.Reading.{Reading, massFrom, valueFrom}
 use Rattle.table.proofs.Lists.{each-list, all-map, each-map}
 use Rattle.table.proofs.Rows.{row-eq}
 use Rattle.table.proofs.Good.{whole-size, key-whole}
@@ -22,7 +22,7 @@ use Rattle.listing.specs.Listing.{order, listed}
 use Rattle.listing.proofs.KeyOrder.{before-irr, before-trans}
 use Rattle.listing.proofs.Rising.{all-at, all-imp}
 use Rattle.listing.proofs.Listings.{ordered-perm, order-low, order-lists}
-use Rattle.promises.specs.Order.{massFrom, valueFrom, RowFrom, ListedFrom}
+use Rattle.promises.specs.Order.{RowFrom, ListedFrom}
 use Rattle.promises.proofs.Histories.{Built}
 use Rattle.promises.proofs.Sums.{over-perm}
 use Rattle.promises.proofs.Sorted.{Has, has-perm, one-list, map-at}
@@ -89,7 +89,7 @@ module _ (d S : ℕ) (rs : List Reading) where
 
 -- ---- the listing of a table made of readings
 -- each stored point is listed
-order-has : (c : Settings) (t : Table) (i : ℕ) → i < t .m → Has 0 (order c t) i
+pub order-has : (c : Settings) (t : Table) (i : ℕ) → i < t .m → Has 0 (order c t) i
 unfolding order
 order-has c t i l = has-perm 0 (ordered-perm _ (t .m) (λ i. i)) i (i, omega (arith, length-tab (t .m) (λ i. i)), getD-tab (t .m) (λ i. i) i 0 l)
 

@@ -1,6 +1,6 @@
 -- Demand 3: what a table is made of is the readings taken, and their order and their sharing among merged tables do not matter.
-use mathlib.Core.Path.{_≡_, refl, sym, ap, _∙_}
-use mathlib.Core.List.{List}
+use mathlib.Core.Path.{_≡_, refl, sym, ap, ap₂, _∙_}
+use mathlib.Core.List.{List, Perm}
 use Prim.Native.Nat.{ℕ, _*_}
 use lib.IntN.{ℤ, pos}
 use lib.ListN.{length, length-map}
@@ -15,10 +15,10 @@ use Rattle.listing.specs.Listing.{order, listed}
 use Rattle.listing.proofs.Listings.{ordered-perm, order-length}
 use Rattle.filter.proofs.Theorems.{answer-of-map}
 use Rattle.promises.specs.History.{settingsIn, run, taken}
-use Rattle.promises.specs.Order.{MadeOf, MadeOfThoseTaken, TakenInAnyOrder, OrderDoesNotMatter}
+use Rattle.promises.specs.Order.{ListedFrom, MadeOf, Same, MadeOfThoseTaken, TakenInAnyOrder, OrderDoesNotMatter}
 use Rattle.promises.proofs.Histories.{Built, built, all-taken}
 use Rattle.promises.proofs.Sums.{over-permᴰ, length-perm}
-use Rattle.promises.proofs.Holding.{added-perm, holds-added}
+use Rattle.promises.proofs.Holding.{added, added-perm, holds-added}
 use Rattle.promises.proofs.Listed.{listed-perm, one-listing, listing-from}
 use Rattle.promises.proofs.Between.{answer-within}
 use Rattle.promises.proofs.Total.{over-shares}
@@ -28,13 +28,13 @@ pub listed-length : (c : Settings) (t : Table) → length (listed c t) ≡ t .m
 unfolding listed
 listed-length c t = length-map (order c t) (row c t) ∙ order-length c t
 
-listed-over : (c : Settings) (t : Table) (f : Row → ℤ) → over (listed c t) f ≡ over (rows c t) f
+pub listed-over : (c : Settings) (t : Table) (f : Row → ℤ) → over (listed c t) f ≡ over (rows c t) f
 unfolding listed order rows
 listed-over c t f = over-map (row c t) (order c t) f ∙ over-permᴰ (λ i. f (row c t i)) (ordered-perm _ (t .m) (λ i. i))
     ∙ over-tab (t .m) (λ i. i) (λ i. f (row c t i)) ∙ sym (over-tab (t .m) (row c t) f)
 
 -- ---- a table is made of its readings
-made : (c : Settings) (t : Table) (rs : List Reading) → Built c t rs → MadeOf (c .d) (c .S) rs c t
+pub made : (c : Settings) (t : Table) (rs : List Reading) → Built c t rs → MadeOf (c .d) (c .S) rs c t
 made c t rs B = record {
   fine = B .fine;
   counts = B .counts;
@@ -48,27 +48,28 @@ made c t rs B = record {
 pub made-of-those-taken : MadeOfThoseTaken
 made-of-those-taken d S h k = made (settingsIn d S h) (run d S h) (taken d S h) (built d S h k)
 
--- ---- and their order does not matter
+-- ---- and their order does not matter: two tables of one d and S, made of the same readings, are alike
+pub same-built : (c : Settings) (t : Table) (rs : List Reading) (b : Settings) (s : Table) (qs : List Reading) → c .d ≡ b .d → c .S ≡ b .S
+    → Built c t rs → Built b s qs → Perm rs qs → Same c t b s
+same-built c t rs b s qs e f B G p = record {
+  same-listing = one;
+  same-readings = B .counts ∙ length-perm rs qs p ∙ sym (G .counts);
+  same-points = sym (listed-length c t) ∙ ap length one ∙ listed-length b s;
+  same-total = ap (λ (rows : List Row). over rows massOf) one;
+  same-value-total = ap (λ (rows : List Row). over rows valueOf) one;
+  same-answers = answer-of-map c t b s (B .fine) (G .fine) e f
+      (λ y. holds-added c t rs B y ∙ added-perm (c .d) (c .S) rs qs p y ∙ ap₂ (λ (d S : ℕ). added d S qs y) e f ∙ sym (holds-added b s qs G y));
+}
+  where
+    theirs : ListedFrom (c .d) (c .S) qs (listed b s)
+    theirs = rw (e, f) (listing-from b s qs G)
+
+    one : listed c t ≡ listed b s
+    one = one-listing (c .d) (c .S) qs (listed c t) (listed b s) (listed-perm (c .d) (c .S) rs qs p (listed c t) (listing-from c t rs B)) theirs
+
 pub taken-in-any-order : TakenInAnyOrder
-taken-in-any-order d S h g k j p =
-    let c = settingsIn d S h in
-    let b = settingsIn d S g in
-    let t = run d S h in
-    let s = run d S g in
-    let rs = taken d S h in
-    let qs = taken d S g in
-    let H = made-of-those-taken d S h k in
-    let G = made-of-those-taken d S g j in
-    let one = one-listing d S qs (listed c t) (listed b s) (listed-perm d S rs qs p (listed c t) (H .listing)) (G .listing) in
-    record {
-      same-listing = one;
-      same-readings = H .counts ∙ length-perm rs qs p ∙ sym (G .counts);
-      same-points = H .points ∙ ap length one ∙ sym (G .points);
-      same-total = ap (λ (rows : List Row). over rows massOf) one;
-      same-value-total = ap (λ (rows : List Row). over rows valueOf) one;
-      same-answers = answer-of-map c t b s (H .fine) (G .fine) refl refl
-          (λ y. holds-added c t rs (built d S h k) y ∙ added-perm d S rs qs p y ∙ sym (holds-added b s qs (built d S g j) y));
-    }
+taken-in-any-order d S h g k j =
+    same-built (settingsIn d S h) (run d S h) (taken d S h) (settingsIn d S g) (run d S g) (taken d S g) refl refl (built d S h k) (built d S g j)
 
 pub order-does-not-matter : OrderDoesNotMatter
 order-does-not-matter d S h g k j p =

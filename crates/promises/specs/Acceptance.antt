@@ -8,9 +8,8 @@ use lib.IntN.{ℤ}
 use lib.ListN.{length}
 use Rattle.whole.specs.Lists.{All}
 use Rattle.lattice.specs.Limits.{most-readings}
-use Rattle.lattice.specs.Position.{Position}
 use Rattle.table.specs.Table.{Table, Row}
-use Rattle.table.specs.Reading.{Reading, parsed}
+use Rattle.table.specs.Reading.{Reading, parsed, Lawful}
 use Rattle.table.specs.Calls.{freshRefusal, enter, mergeRefusal}
 use Rattle.reader.specs.Items.{settingsOf}
 use Rattle.reader.specs.Content.{Said, reads, asks, refuses}
@@ -18,18 +17,13 @@ use Rattle.reader.specs.Walk as log
 use Rattle.reader.specs.Walk.{Walk, then, ends, items}
 use Rattle.log.specs.Loading.{startRefusal, load}
 use Rattle.promises.specs.History.{History, starting, entering, merging, offering, loading, capacity, settingsIn, run, Begun, taken, NoneRefused, readings}
-use Rattle.promises.specs.Refusals.{WholeItems, Fair}
+use Rattle.promises.specs.Refusals.{WholeItems}
 use Rattle.promises.specs.Order.{ListedFrom}
-
--- a reading within its own limits: none of 4, 5 and 6 is met
-pub record Proper (d : ℕ) (r : Reading) : Type 0 where
-  pub position : Position d (r .position)
-  pub fair : Fair r
 
 -- Readings that fit into a table of capacity C, which speaks of no table's memory: each is within its own limits, "At most 4,096 readings in a table.", and the sorted listing of them has at
 -- most C points.
 pub record FitInto (d S C : ℕ) (rs : List Reading) : Type 0 where
-  pub each : All (Proper d) rs
+  pub each : All (Lawful d) rs
   pub few : length rs ≤ most-readings
   pub listing : List Row
   pub theirs : ListedFrom d S rs listing

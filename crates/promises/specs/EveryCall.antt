@@ -24,6 +24,7 @@ use Rattle.promises.specs.Contracts.{One, Answering}
 use Rattle.table.proofs.fresh.fresh as fresh-call
 use Rattle.enter.proofs.enter as enter-call
 use Rattle.merge.proofs.merge as merge-call
+use Rattle.withdraw.proofs.withdraw as withdraw-call
 use Rattle.listing.proofs.list as list-call
 use Rattle.filter.proofs.filter as filter-call
 use Rattle.log.proofs.load as load-call
@@ -44,6 +45,7 @@ pub record EveryCallOne : Type 0 where
   pub fresh : Answering fresh-call.ended fresh-call.Reads.Post fresh-call.Reads.Learnt fresh-call.Reads.Asked
   pub enter : Answering enter-call.ended enter-call.Reads.Post enter-call.Reads.Learnt enter-call.Reads.Asked
   pub merge : Answering merge-call.ended merge-call.Reads.Post merge-call.Reads.Learnt merge-call.Reads.Asked
+  pub withdraw : Answering withdraw-call.ended withdraw-call.Reads.Post withdraw-call.Reads.Learnt withdraw-call.Reads.Asked
   pub list : Answering list-call.ended list-call.Reads.Post list-call.Reads.Learnt list-call.Reads.Asked
   pub filter : Answering filter-call.ended filter-call.Reads.Post filter-call.Reads.Learnt filter-call.Reads.Asked
   pub load : Answering load-call.ended load-call.Reads.Post load-call.Reads.Learnt load-call.Reads.Asked

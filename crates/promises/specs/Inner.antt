@@ -15,13 +15,29 @@ use Rattle.table.proofs.settings.in_range
 use Rattle.table.proofs.settings.lengths_fit
 use Rattle.table.proofs.with_counts
 use Rattle.table.proofs.fresh.clear_sums
+use Rattle.table.proofs.fresh.clear_index
+use Rattle.table.proofs.reading.own_refusal
 use Rattle.soundness.proofs.is_sound
 use Rattle.soundness.proofs.refusal_of
+use Rattle.numbers.proofs.place_of
+use Rattle.numbers.proofs.add_number
+use Rattle.numbers.proofs.index_book
+use Rattle.numbers.proofs.numbers_apart
 use Rattle.pour.proofs.add_row
 use Rattle.pour.proofs.is_new
 use Rattle.pour.proofs.pair.set_pair
 use Rattle.pour.proofs.pair.raise_pair
+use Rattle.pour.proofs.stretch.put_key
+use Rattle.pour.proofs.stretch.store_key
+use Rattle.shares.proofs.new_in_slots
+use Rattle.shares.proofs.times
+use Rattle.shares.proofs.pour_shares
+use Rattle.spread.proofs.spread_reading
+use Rattle.spread.proofs.sums_are_theirs
+use Rattle.carried.proofs.refusal_of as carried-refusal-of
+use Rattle.enter.proofs.reading.take
 use Rattle.enter.proofs.reading.enter_one
+use Rattle.listing.proofs.fill.fill
 use Rattle.blur.proofs.pair.pair_of
 use Rattle.blur.proofs.blur
 use Rattle.filter.proofs.reply.reply_at
@@ -58,13 +74,29 @@ pub record InnerOnly : Type 0 where
   pub lengths-fit : OnlyOutcome lengths_fit.ended lengths_fit.Reads.Learnt
   pub with-counts : OnlyOutcome with_counts.ended with_counts.Reads.Learnt
   pub clear-sums : OnlyOutcome clear_sums.ended clear_sums.Reads.Learnt
+  pub clear-index : OnlyOutcome clear_index.ended clear_index.Reads.Learnt
+  pub own-refusal : OnlyOutcome own_refusal.ended own_refusal.Reads.Learnt
   pub is-sound : OnlyOutcome is_sound.ended is_sound.Reads.Learnt
   pub refusal-of : OnlyOutcome refusal_of.ended refusal_of.Reads.Learnt
+  pub place-of : OnlyOutcome place_of.ended place_of.Reads.Learnt
+  pub add-number : OnlyOutcome add_number.ended add_number.Reads.Learnt
+  pub index-book : OnlyOutcome index_book.ended index_book.Reads.Learnt
+  pub numbers-apart : OnlyOutcome numbers_apart.ended numbers_apart.Reads.Learnt
   pub add-row : OnlyOutcome add_row.ended add_row.Reads.Learnt
   pub is-new : OnlyOutcome is_new.ended is_new.Reads.Learnt
   pub set-pair : OnlyOutcome set_pair.ended set_pair.Reads.Learnt
   pub raise-pair : OnlyOutcome raise_pair.ended raise_pair.Reads.Learnt
+  pub put-key : OnlyOutcome put_key.ended put_key.Reads.Learnt
+  pub store-key : OnlyOutcome store_key.ended store_key.Reads.Learnt
+  pub new-in-slots : OnlyOutcome new_in_slots.ended new_in_slots.Reads.Learnt
+  pub times : OnlyOutcome times.ended times.Reads.Learnt
+  pub pour-shares : OnlyOutcome pour_shares.ended pour_shares.Reads.Learnt
+  pub spread-reading : OnlyOutcome spread_reading.ended spread_reading.Reads.Learnt
+  pub sums-are-theirs : OnlyOutcome sums_are_theirs.ended sums_are_theirs.Reads.Learnt
+  pub carried-refusal : OnlyOutcome carried-refusal-of.ended carried-refusal-of.Reads.Learnt
+  pub take : OnlyOutcome take.ended take.Reads.Learnt
   pub enter-one : OnlyOutcome enter_one.ended enter_one.Reads.Learnt
+  pub fill : OnlyOutcome fill.ended fill.Reads.Learnt
   pub pair-of : OnlyOutcome pair_of.ended pair_of.Reads.Learnt
   pub blur : OnlyOutcome blur.ended blur.Reads.Learnt
   pub reply-at : OnlyOutcome reply_at.ended reply_at.Reads.Learnt

@@ -1,5 +1,6 @@
 pub mod History
 pub mod Order
+pub mod Book
 pub mod Acceptance
 pub mod Printing
 pub mod Filter

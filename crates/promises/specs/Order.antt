@@ -11,22 +11,15 @@ use Rattle.whole.specs.Size.{Within}
 use Rattle.whole.specs.Sum.{over}
 use Rattle.whole.specs.Lists.{at, All, Each}
 use Rattle.lattice.specs.Lattice.{Point}
-use Rattle.lattice.specs.Weight.{W, weight, least, greatest}
+use Rattle.lattice.specs.Weight.{W, least, greatest}
 use Rattle.table.specs.Table.{Settings, Table, Row, whole, massOf}
-use Rattle.table.specs.Reading.{Reading}
+use Rattle.table.specs.Reading.{Reading, massFrom, valueFrom}
 use Rattle.table.specs.Sound.{Fine}
 use Rattle.listing.specs.Order.{precedes}
 use Rattle.listing.specs.Listing.{listed}
 use Rattle.filter.specs.Answer.{code, answer}
 use Rattle.filter.specs.Theorems.{SameAnswer}
 use Rattle.promises.specs.History.{History, settingsIn, run, Begun, taken, NoneRefused, readings}
-
--- "add w to its mass and w·v to its value sum": what readings give to the lattice point y, each by its weight alone
-abbrev pub massFrom : ℕ → ℕ → List Reading → List ℤ → ℤ
-massFrom d S rs y = over rs (λ r. pos (weight d S (at (r .position)) (at y)))
-
-abbrev pub valueFrom : ℕ → ℕ → List Reading → List ℤ → ℤ
-valueFrom d S rs y = over rs (λ r. pos (weight d S (at (r .position)) (at y)) *ℤ r .value)
 
 -- a stored point is a lattice point with what the readings give to it, which is above 0
 pub record RowFrom (d S : ℕ) (rs : List Reading) (r : Row) : Type 0 where

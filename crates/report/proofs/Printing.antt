@@ -11,7 +11,7 @@ use Rattle.lattice.specs.Limits.{most-d}
 use Rattle.table.specs.declared.Head.{Head}
 use Rattle.table.specs.Table.{Settings, Table}
 use Rattle.table.specs.Calls.{lent, fresh}
-use Rattle.table.specs.Heads.{settings, table}
+use Rattle.table.specs.Heads.{settings, table, headOf}
 use Rattle.table.specs.Sound.{Fine}
 use Rattle.text.specs.Text.{Written}
 use Rattle.text.proofs.Lines.{written-then, written-room}
@@ -65,7 +65,7 @@ refused-text l zero o z = absurd (z refl)
 refused-text l (suc x) o z = refl
 
 module _ (l : List ℕ) (t : Table) {number offset : ℕ} {head : Head} {keys sums : List ℤ} {index : List ℕ}
-    (A : Loads (load l t) number offset head keys sums index) where
+    (A : Loads (headOf (load l t .settings)) (load l t) number offset head keys sums index) where
   abbrev left : Table
   left = table head keys sums index
 

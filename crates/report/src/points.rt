@@ -6,7 +6,7 @@ ghost use Rattle.report.specs.Report.{pointLines};
 ghost use Rattle.report.specs.Inner.{linesIn, RowsRoom, PointsRoom};
 use crate::MOST_LOG_CAPACITY;
 use crate::lines::put_point_line;
-use listing::list;
+use listing::fill::fill;
 use table::Head;
 
 // The lines of the points that the array names, from its start on.
@@ -32,7 +32,7 @@ fn put_rows(
     next
 }
 
-// The table is sound, so listing it is not refused.
+// The table is sound, so its list is filled without the tests that the call `list` makes first.
 pub fn put_points(
     out: &mut [u8],
     at: usize,
@@ -49,6 +49,6 @@ pub fn put_points(
 {
     let mut order = [0u16; MOST_LOG_CAPACITY];
     let places = head.capacity;
-    list(head, keys, sums, index, &mut order[0..places]);
+    fill(keys, head.d, head.points, &mut order[0..places]);
     put_rows(out, at, head, keys, sums, &order)
 }

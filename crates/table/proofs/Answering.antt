@@ -8,7 +8,7 @@ use lib.ListN.{length, replicate}
 use Rattle.lattice.specs.Refusals.{first, settings-out-of-range, other-length}
 use Rattle.table.specs.Table.{Settings, Table}
 use Rattle.table.specs.Calls.{ranged, fits, lent, fresh, freshRefusal, afterFresh}
-use Rattle.table.specs.Heads.{headOf, Answers}
+use Rattle.table.specs.Heads.{headOf, withCounts, Answers}
 use Rattle.table.proofs.Soundness.{to-shape}
 use Rattle.table.proofs.Calls.{fresh-done, fresh-refused}
 use Rattle.table.proofs.Refusals.{T-of}
@@ -19,14 +19,14 @@ module _ (c : Settings) (keys sums : List ℤ) (index : List ℕ) where
   given = lent keys sums index
 
   abbrev Fresh : ℕ → List ℤ → List ℤ → List ℕ → Type 0
-  Fresh number k s i = Answers c (freshRefusal c given) (afterFresh c given) number (headOf c given) k s i
+  Fresh number k s i = Answers (headOf c) (freshRefusal c given) (afterFresh c given) number (headOf c) k s i
 
   -- the table that is left, and what its parts are
-  answered : (x : ℕ) (t : Table) {k s : List ℤ} {i : List ℕ} → freshRefusal c given ≡ x → afterFresh c given ≡ t → headOf c given ≡ headOf c t
+  answered : (x : ℕ) (t : Table) {k s : List ℤ} {i : List ℕ} → freshRefusal c given ≡ x → afterFresh c given ≡ t → headOf c ≡ withCounts (headOf c) (t .n) (t .m)
       → k ≡ t .keys → s ≡ t .sums → i ≡ t .index → Fresh x k s i
   answered x t e a h p q o = record {
     number-is = sym e;
-    head-is = h ∙ ap (headOf c) (sym a);
+    head-is = h ∙ ap (λ (t : Table). withCounts (headOf c) (t .n) (t .m)) (sym a);
     keys-are = p ∙ ap (λ (t : Table). t .keys) (sym a);
     sums-are = q ∙ ap (λ (t : Table). t .sums) (sym a);
     index-are = o ∙ ap (λ (t : Table). t .index) (sym a);

@@ -1,5 +1,5 @@
 -- Which way a call goes: done where its refusal is 0, and all or nothing; and the head and the table of what it answers.
-use mathlib.Core.Path.{_≡_}
+use mathlib.Core.Path.{_≡_, sym, ap, _∙_}
 use mathlib.Core.List.{List}
 use Prim.Native.Nat.{ℕ, suc}
 use lib.IntN.{ℤ}
@@ -7,7 +7,7 @@ use Rattle.table.specs.declared.Head.{Head}
 use Rattle.table.specs.Table.{Settings, Table}
 use Rattle.table.specs.Reading.{parsed}
 use Rattle.table.specs.Calls.{freshRefusal, fresh, afterFresh, enterAll, enterRefusal, enter, mergeRefusal, merged, afterMerge}
-use Rattle.table.specs.Heads.{settings, table, headOf, Answers}
+use Rattle.table.specs.Heads.{table, withCounts, Answers}
 
 pub fresh-done : (c : Settings) (t : Table) → freshRefusal c t ≡ 0 → afterFresh c t ≡ fresh c
 unfolding afterFresh
@@ -33,11 +33,25 @@ pub merge-refused : (c : Settings) (t : Table) (b : Settings) (s : Table) (x : �
 unfolding afterMerge
 merge-refused c t b s x e = rw (e, afterMerge)
 
--- a head is that of its table
-pub same-head : {c : Settings} (h : Head) (keys sums : List ℤ) (index : List ℕ) → settings h ≡ c → h ≡ headOf c (table h keys sums index)
-same-head h keys sums index e = λ j. record { d = e j .d; fineness = e j .S; capacity = e j .C; readings = h .readings; points = h .points }
+-- a head that differs from a given one in its counts alone, as heads do from call to call
+abbrev pub Counted : Head → Head → Type 0
+Counted given h = h ≡ withCounts given (h .readings) (h .points)
+
+pub counted-again : (given h : Head) {head : Head} {n m : ℕ} → Counted given h → head ≡ withCounts h n m → Counted given head
+counted-again given h {n = n} {m = m} s e = e ∙ ap (λ (h : Head). withCounts h n m) s ∙ (λ i. withCounts given (sym e i .readings) (sym e i .points))
+
+-- so what is answered by such a head is answered by the given one
+pub by-given : (given h : Head) {n m x : ℕ} {t : Table} {number : ℕ} {head : Head} {keys sums : List ℤ} {index : List ℕ} → h ≡ withCounts given n m
+    → Answers h x t number head keys sums index → Answers given x t number head keys sums index
+by-given given h {t = t} s A = record {
+  number-is = A .number-is;
+  head-is = A .head-is ∙ ap (λ (h : Head). withCounts h (t .n) (t .m)) s;
+  keys-are = A .keys-are;
+  sums-are = A .sums-are;
+  index-are = A .index-are;
+}
 
 -- the table of what is answered
-pub answered : {c : Settings} {x : ℕ} {t : Table} {number : ℕ} {head : Head} {keys sums : List ℤ} {index : List ℕ}
-    → Answers c x t number head keys sums index → table head keys sums index ≡ t
+pub answered : {given : Head} {x : ℕ} {t : Table} {number : ℕ} {head : Head} {keys sums : List ℤ} {index : List ℕ}
+    → Answers given x t number head keys sums index → table head keys sums index ≡ t
 answered A = λ j. record { n = A .head-is j .readings; m = A .head-is j .points; keys = A .keys-are j; sums = A .sums-are j; index = A .index-are j }

@@ -9,6 +9,7 @@ pub mod Pouring
 pub mod Turns
 pub mod Sizes
 pub mod Refusals
+pub mod Limits
 pub mod Shares
 pub mod Keeping
 pub mod Entering

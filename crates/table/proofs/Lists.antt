@@ -21,7 +21,7 @@ module _ {A : Type 0} where
   tab-snoc (suc n) f = ap (λ (l : List A). f 0 ∷ l) (tab-snoc n (λ i. f (suc i)))
 
   -- the first j, and the k after them
-  tab-add : (j k : ℕ) (f : ℕ → A) → tab (j + k) f ≡ tab j f ++ tab k (λ i. f (j + i))
+  pub tab-add : (j k : ℕ) (f : ℕ → A) → tab (j + k) f ≡ tab j f ++ tab k (λ i. f (j + i))
   unfolding tab
   tab-add zero k f = let e : zero + k ≡ k = omega arith in rw e (tab-cong k f (λ i. f (0 + i)) (λ i h. let q : i ≡ 0 + i = omega arith in ap f q))
   tab-add (suc j) k f = let e : suc j + k ≡ suc (j + k) = omega arith in

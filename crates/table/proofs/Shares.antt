@@ -31,7 +31,7 @@ use Rattle.index.specs.Keys.{same}
 use Rattle.index.proofs.Equality.{same-eq, eq-same}
 use Rattle.table.specs.Table.{Settings, Table, Row, massOf, keysOf}
 use Rattle.table.specs.Sound.{Good, Ranged}
-use Rattle.table.specs.Pour.{news, roomTest}
+use Rattle.table.specs.Pour.{news, fewTest, roomTest}
 use Rattle.table.specs.Reading.{Reading, share, shares, ownTests, refusal}
 use Rattle.table.specs.Inner.{weighedRow}
 use Rattle.table.proofs.Lists.{all-list, each-list, all-map, each-map, over-map}
@@ -50,7 +50,7 @@ unfolding refusal
 accepted c t r size e =
     let a = allNear (r .position) in
     let b = sumsToZero (r .position) in
-    let p = all-pass (ownTests (t .n) r ++ (roomTest (c .C) (t .m + news c t (keysOf (shares (c .d) (c .S) r))) ∷ [])) tt e in
+    let p = all-pass (ownTests r ++ (fewTest (t .n + 1) ∷ roomTest (c .C) (t .m + news c t (keysOf (shares (c .d) (c .S) r))) ∷ [])) tt e in
     record {
       position = judged-right (c .d) (r .position) size .none .0 (judged-none (r .position) (T-true a (p .0)) (T-true b (p .1 .0)));
       fair = abs-of (r .value) most-value (leb→le (natAbs (r .value)) most-value (p .1 .1 .0));
@@ -59,10 +59,10 @@ accepted c t r size e =
     }
 
 -- ---- a weight times a value
-fair-low : (w : ℕ) (v : ℤ) → negℤ (pos most-value) ≤ℤ v → negℤ (pos most-value *ℤ pos w) ≤ℤ (pos w *ℤ v)
+pub fair-low : (w : ℕ) (v : ℤ) → negℤ (pos most-value) ≤ℤ v → negℤ (pos most-value *ℤ pos w) ≤ℤ (pos w *ℤ v)
 fair-low w = on _ λ a b. simp difs (λ h. let l : w * b ≤ w * (1000000 + a) = mul-le-mul-left w (omega ints) in dif-le 0 (1000000 * w) (w * a + 0 * b) (w * b + 0 * a) (omega arith))
 
-fair-high : (w : ℕ) (v : ℤ) → v ≤ℤ pos most-value → (pos w *ℤ v) ≤ℤ (pos most-value *ℤ pos w)
+pub fair-high : (w : ℕ) (v : ℤ) → v ≤ℤ pos most-value → (pos w *ℤ v) ≤ℤ (pos most-value *ℤ pos w)
 fair-high w = on _ λ a b. simp difs (λ h. let l : w * a ≤ w * (1000000 + b) = mul-le-mul-left w (omega ints) in dif-le (w * a + 0 * b) (w * b + 0 * a) (1000000 * w) 0 (omega arith))
 
 -- ---- the rows of a reading

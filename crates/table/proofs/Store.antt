@@ -23,18 +23,18 @@ module _ (d C i : ℕ) (l k : List ℤ) (size : length l ≡ d * C) (less : i < 
   inside : d * i + d ≤ d * C
   inside = stretch-fits d i C (d * C) less (le-refl (d * C))
 
-  begins : d * i ≤ length l
+  pub begins : d * i ≤ length l
   begins = omega (arith, inside)
 
-  put-length : length (splice l (d * i) k) ≡ d * C
+  pub put-length : length (splice l (d * i) k) ≡ d * C
   put-length = length-splice l (d * i) k (omega (arith, inside)) ∙ size
 
-  put-before : (j : ℕ) → j < i → keyAt d (splice l (d * i) k) j ≡ keyAt d l j
+  pub put-before : (j : ℕ) → j < i → keyAt d (splice l (d * i) k) j ≡ keyAt d l j
   unfolding keyAt
   put-before j h = tab-cong d (λ e. at (splice l (d * i) k) (d * j + e)) (λ e. at l (d * j + e))
       (λ e g. let m : d * suc j ≤ d * i = mul-le-mul-left d h in getD-splice-before l (d * i) k (d * j + e) (pos 0) begins (omega arith))
 
-  put-key : keyAt d (splice l (d * i) k) i ≡ k
+  pub put-key : keyAt d (splice l (d * i) k) i ≡ k
   unfolding keyAt
   put-key = tab-cong d (λ e. at (splice l (d * i) k) (d * i + e)) (λ e. at k e)
       (λ e g. getD-splice-in l (d * i) k e (pos 0) begins (omega arith)) ∙ tab-self k d (pos 0) fit

@@ -21,9 +21,13 @@ tableWith h m keys sums index = record { n = h .readings; m = m; keys = keys; su
 abbrev pub table : Head → List ℤ → List ℤ → List ℕ → Table
 table h keys sums index = tableWith h (h .points) keys sums index
 
--- the head of a table
-abbrev pub headOf : Settings → Table → Head
-headOf c t = record { d = c .d; fineness = c .S; capacity = c .C; readings = t .n; points = t .m }
+-- the head of these settings, with no reading and no point
+abbrev pub headOf : Settings → Head
+headOf c = record { d = c .d; fineness = c .S; capacity = c .C; readings = 0; points = 0 }
+
+-- a head with other counts
+abbrev pub withCounts : Head → ℕ → ℕ → Head
+withCounts h n m = record { d = h .d; fineness = h .fineness; capacity = h .capacity; readings = n; points = m }
 
 -- Points counted and memory left are those of the table t.
 pub record Holds (t : Table) (points : ℕ) (keys sums : List ℤ) (index : List ℕ) : Type 0 where
@@ -32,18 +36,18 @@ pub record Holds (t : Table) (points : ℕ) (keys sums : List ℤ) (index : List
   pub sums-are : sums ≡ t .sums
   pub index-are : index ≡ t .index
 
--- A call's number is x, the head it hands back is that of the table t, and it leaves the memory of t.
-pub record Answers (c : Settings) (x : ℕ) (t : Table) (number : ℕ) (head : Head) (keys sums : List ℤ) (index : List ℕ) : Type 0 where
+-- A call's number is x, the head it hands back is the one that it was given with the counts of the table t, and it leaves the memory of t.
+pub record Answers (given : Head) (x : ℕ) (t : Table) (number : ℕ) (head : Head) (keys sums : List ℤ) (index : List ℕ) : Type 0 where
   pub number-is : number ≡ x
-  pub head-is : head ≡ headOf c t
+  pub head-is : head ≡ withCounts given (t .n) (t .m)
   pub keys-are : keys ≡ t .keys
   pub sums-are : sums ≡ t .sums
   pub index-are : index ≡ t .index
 
 -- What enter hands back and leaves: "answers how many it took, the number (0 if all), and the new head"
-pub record Enters (c : Settings) (o : Outcome) (taken number : ℕ) (head : Head) (keys sums : List ℤ) (index : List ℕ) : Type 0 where
+pub record Enters (given : Head) (o : Outcome) (taken number : ℕ) (head : Head) (keys sums : List ℤ) (index : List ℕ) : Type 0 where
   pub taken-is : taken ≡ o .taken
-  pub answers : Answers c (o .number) (o .table) number head keys sums index
+  pub answers : Answers given (o .number) (o .table) number head keys sums index
 
 -- a slice that is lent to a call, as it is before the call and after it
 abbrev pub Slice : Type 0 → Type 0
@@ -66,9 +70,9 @@ abbrev pub HoldsIn : Table → ℕ → Slice ℤ → Slice ℤ → Slice ℕ →
 HoldsIn t points keys sums index = Holds t points (now (keys .exit)) (now (sums .exit)) (now (index .exit))
 
 -- `Answers` of what is left in three slices
-abbrev pub AnswersIn : Settings → ℕ → Table → ℕ → Head → Slice ℤ → Slice ℤ → Slice ℕ → Type 0
-AnswersIn c x t number head keys sums index = Answers c x t number head (now (keys .exit)) (now (sums .exit)) (now (index .exit))
+abbrev pub AnswersIn : Head → ℕ → Table → ℕ → Head → Slice ℤ → Slice ℤ → Slice ℕ → Type 0
+AnswersIn given x t number head keys sums index = Answers given x t number head (now (keys .exit)) (now (sums .exit)) (now (index .exit))
 
 -- `Enters` of what is left in three slices
-abbrev pub EntersIn : Settings → Outcome → ℕ → ℕ → Head → Slice ℤ → Slice ℤ → Slice ℕ → Type 0
-EntersIn c o taken number head keys sums index = Enters c o taken number head (now (keys .exit)) (now (sums .exit)) (now (index .exit))
+abbrev pub EntersIn : Head → Outcome → ℕ → ℕ → Head → Slice ℤ → Slice ℤ → Slice ℕ → Type 0
+EntersIn given o taken number head keys sums index = Enters given o taken number head (now (keys .exit)) (now (sums .exit)) (now (index .exit))

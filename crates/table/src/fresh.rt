@@ -4,7 +4,7 @@ ghost use lib.IntN.{pos};
 ghost use lib.ListN.{length, replicate};
 ghost use Rattle.table.specs.Table.{Settings};
 ghost use Rattle.table.specs.Calls.{freshRefusal, afterFresh};
-ghost use Rattle.table.specs.Heads.{lentIn, AnswersIn};
+ghost use Rattle.table.specs.Heads.{lentIn, headOf, AnswersIn};
 use crate::Answer;
 use crate::Head;
 use crate::settings::in_range;
@@ -31,7 +31,7 @@ pub fn clear_sums(sums: &mut [i64])
     }
 }
 
-fn clear_index(index: &mut [u16])
+pub fn clear_index(index: &mut [u16])
     ensures { λ r. ⌜ now (index .exit) ≡ replicate (length (now (index .entry))) 0 ⌝ }
 {
     let n = index.len();
@@ -53,7 +53,7 @@ pub fn fresh(
     ensures { λ r. ⌜
         (let c : Settings = record { d = d; S = fineness; C = capacity } in
         let t = lentIn keys sums index in
-        AnswersIn c (freshRefusal c t) (afterFresh c t) (r .number) (r .head) keys sums index)
+        AnswersIn (headOf c) (freshRefusal c t) (afterFresh c t) (r .number) (r .head) keys sums index)
         ⌝ }
 {
     let head = Head {

@@ -1,8 +1,10 @@
 // A table of readings: the head, which is passed by value, and the call that makes a fresh table.
 // What a table means and what each call answers stands in specs/, and the laws of that in proofs/.
 ghost use mathlib.Core.Path.{_≡_};
+ghost use Rattle.table.specs.Heads.{withCounts};
 
 pub mod fresh;
+pub mod reading;
 pub mod settings;
 
 // The settings (d, S, C) and the numbers of readings and of points.
@@ -22,7 +24,7 @@ pub struct Answer {
 
 // The head of the same settings with these counts.
 pub fn with_counts(head: Head, readings: usize, points: usize) -> Head
-    ensures { λ r. ⌜ r ≡ record { d = head .d; fineness = head .fineness; capacity = head .capacity; readings = readings; points = points } ⌝ }
+    ensures { λ r. ⌜ r ≡ withCounts head readings points ⌝ }
 {
     Head {
         d: head.d,

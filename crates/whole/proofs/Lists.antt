@@ -5,12 +5,13 @@ use mathlib.Core.List.{List, [], _∷_, _++_, map, map-append, append-nil, appen
 use Prim.Native.Nat.{ℕ, zero, suc, _+_, _*_, _-_, _/_, _<_, _≤_}
 use native.Mathlib.Nat.{not-suc-le-zero, le-of-suc-le-suc, mul-le-mul-left, div-add-mod}
 use native.Mathlib.Numerals.{add-one}
-use native.Mathlib.Decide.{ℕ-discrete}
+use native.Mathlib.Decide.{ℕ-discrete, decLt}
 use native.Mathlib.Omega.{arith}
-use lib.ListN.{length, set, take, drop, getD, length-set, length-append, length-drop, drop-of-length-le, List·getD-append}
+use lib.IntN.{pos}
+use lib.ListN.{length, set, take, drop, getD, replicate, length-set, length-append, length-drop, length-replicate, drop-of-length-le, getD-replicate, List·getD-append, List·getD-eq-default}
 use lib.Seq.{paste, paste-zero, paste-suc, take-all, take-at, drop-at, drop-drop, length-take-le, getD-take, getD-drop, getD-append-add, getD-set-same, getD-set-other, ext-getD}
 use borrow.Rule.Slice.PartMut.{putMid}
-use Rattle.whole.specs.Lists.{tab, collect, splice}
+use Rattle.whole.specs.Lists.{at, tab, collect, splice}
 
 -- ---- part k of parts of w numbers, of as many as n numbers make
 pub part-fits : (w n k : ℕ) → k < n / w → w * k + w ≤ n
@@ -63,7 +64,7 @@ module _ {A : Type 0} where
   pub getD-splice-before : (l : List A) (a : ℕ) (v : List A) (i : ℕ) (z : A) → a ≤ length l → i < a → getD (splice l a v) i z ≡ getD l i z
   getD-splice-before l a v i z h k = List·getD-append (take a l) (v ++ drop (a + length v) l) z i (rw (length-take-le a l h) k) ∙ getD-take a l i z k
 
-  past : (l r : List A) (n i : ℕ) (z : A) → length l ≡ n → getD (l ++ r) (n + i) z ≡ getD r i z
+  pub past : (l r : List A) (n i : ℕ) (z : A) → length l ≡ n → getD (l ++ r) (n + i) z ≡ getD r i z
   past l r n i z e = rw (← e) (getD-append-add l r i z)
 
   pub getD-splice-in : (l : List A) (a : ℕ) (v : List A) (i : ℕ) (z : A) → a ≤ length l → i < length v → getD (splice l a v) (a + i) z ≡ getD v i z
@@ -133,6 +134,15 @@ module _ {A : Type 0} where
   pub part-length : (l : List A) (a n : ℕ) → a + n ≤ length l → length (take (a + n - a) (drop a l)) ≡ n
   part-length l a n h = let q : a + n - a ≡ n = omega arith in ap (λ (k : ℕ). length (take k (drop a l))) q ∙ length-take-le n (drop a l) (omega (arith, length-drop a l))
 
+  -- the start of a list of one number over and over
+  pub part-replicate : (n k : ℕ) (a : A) → k ≤ n → take (k - 0) (drop 0 (replicate n a)) ≡ replicate k a
+  part-replicate n k a h = let q : k - 0 ≡ k = omega arith in rw q (go n k h)
+    where
+      go : (n k : ℕ) → k ≤ n → take k (replicate n a) ≡ replicate k a
+      go n zero h = refl
+      go zero (suc k) h = absurd (not-suc-le-zero h)
+      go (suc n) (suc k) h = ap (λ (l : List A). a ∷ l) (go n k (le-of-suc-le-suc h))
+
   -- ---- lists one after the other
   pub collect-cong : (n : ℕ) (g h : ℕ → List A) → ((k : ℕ) → k < n → g k ≡ h k) → collect n g ≡ collect n h
   unfolding collect
@@ -143,3 +153,11 @@ pub map-collect : {A B : Type 0} (f : A → B) (n : ℕ) (g : ℕ → List A) �
 unfolding collect
 map-collect f zero g = refl
 map-collect f (suc n) g = map-append f (collect n g) (g n) ∙ ap (λ (t : List _). t ++ map f (g n)) (map-collect f n g)
+
+-- a list of 0 reads 0 at every place
+pub zeros : (n i : ℕ) → at (replicate n (pos 0)) i ≡ pos 0
+zeros n i = go (decLt i n)
+  where
+    go : Dec (i < n) → at (replicate n (pos 0)) i ≡ pos 0
+    go (yes l) = getD-replicate n i (pos 0) (pos 0) l
+    go (no l) = List·getD-eq-default (replicate n (pos 0)) (pos 0) (omega (arith, length-replicate n (pos 0)))

@@ -1,0 +1,15 @@
+pub mod Worked
+pub mod Afresh
+pub mod Lowering
+pub mod Vacating
+pub mod Given
+pub mod Leaving
+pub mod Withdrawing
+pub mod Summing
+pub mod Carrying
+pub mod Testing
+pub mod Entries
+pub mod Keeping
+pub mod Booking
+pub mod TakingBack
+pub mod Lowest

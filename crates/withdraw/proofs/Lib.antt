@@ -1,0 +1,11 @@
+pub mod Named
+pub mod MovedDown
+pub mod Downward
+pub mod Vacated
+pub mod Going
+pub mod Off
+pub mod Opposite
+pub mod Lowered
+pub mod Unpoured
+pub mod TakenBack
+pub mod Answers
