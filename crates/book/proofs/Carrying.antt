@@ -14,6 +14,7 @@ use Rattle.table.specs.Sound.{Fine, Ranged}
 use Rattle.table.specs.Reading.{Reading, shares, entered, massFrom, valueFrom, Lawful}
 use Rattle.table.specs.Calls.{fresh, merged}
 use Rattle.table.specs.Theorems.{plus}
+use Rattle.table.proofs.Lists.{all-append}
 use Rattle.table.proofs.Rows.{given}
 use Rattle.table.proofs.Soundness.{fine-kept, of-ranged}
 use Rattle.table.proofs.Shares.{Accepted, share-given}
@@ -24,13 +25,9 @@ use Rattle.book.specs.Book.{Numbered, readingsOf, OtherNumber, Carries}
 
 -- ---- two lists one after the other
 module _ {A : Type 0} where
-  all-both : (Q : A → Type 0) (a b : List A) → All Q a → All Q b → All Q (a ++ b)
-  all-both Q [] b h g = g
-  all-both Q (x ∷ a) b h g = (h .0, all-both Q a b (h .1) g)
-
   each-both : (R : A → A → Type 0) (a b : List A) → Each R a → Each R b → All (λ x. All (R x) b) a → Each R (a ++ b)
   each-both R [] b h g k = g
-  each-both R (x ∷ a) b h g k = (all-both (R x) a b (h .0) (k .0), each-both R a b (h .1) g (k .1))
+  each-both R (x ∷ a) b h g k = (all-append (R x) a b (h .0) (k .0), each-both R a b (h .1) g (k .1))
 
 module _ (d S : ℕ) (a b : List Numbered) (y : List ℤ) where
   both-from : (massFrom d S (readingsOf (a ++ b)) y, valueFrom d S (readingsOf (a ++ b)) y)
@@ -52,7 +49,7 @@ entered-carries c t es e F K A new =
     let R = accept-adds c t (shares (c .d) (c .S) r) 1 (reading-acceptable c t r F A) in
     record {
       counts = R .count ∙ ap (λ (n : ℕ). n + 1) (K .counts) ∙ sym (length-append es (e ∷ []));
-      limits = all-both (λ e. Lawful (c .d) (e .reading)) es (e ∷ []) (K .limits) (record { position = A .position; fair = A .fair }, tt);
+      limits = all-append (λ e. Lawful (c .d) (e .reading)) es (e ∷ []) (K .limits) (record { position = A .position; fair = A .fair }, tt);
       apart = each-both OtherNumber es (e ∷ []) (K .apart) (tt, tt) (alone es new);
       sums = λ y Y. adds-held c t (entered c t r) F 1 (over (shares (c .d) (c .S) r)) R (take (c .d) y)
           ∙ ap (λ (p : ℤ × ℤ). plus p (given (shares (c .d) (c .S) r) (take (c .d) y))) (K .sums y Y)
@@ -76,7 +73,7 @@ merged-carries c t b s es fs K J M new =
     let d = sym (M .same-d) in
     record {
       counts = R .count ∙ (λ i. K .counts i + J .counts i) ∙ sym (length-append es fs);
-      limits = all-both (λ e. Lawful (c .d) (e .reading)) es fs (K .limits) (subst (λ (d : ℕ). All (λ e. Lawful d (e .reading)) fs) d (J .limits));
+      limits = all-append (λ e. Lawful (c .d) (e .reading)) es fs (K .limits) (subst (λ (d : ℕ). All (λ e. Lawful d (e .reading)) fs) d (J .limits));
       apart = each-both OtherNumber es fs (K .apart) (J .apart) new;
       sums = λ y Y. adds-held c t (merged c t b s) (M .target) (s .n) (over (rows b s)) R (take (c .d) y)
           ∙ ap (plus (held c t (take (c .d) y))) (sym (held-given b (M .source .ranged .C-least) s (fine-kept b s (M .source)) (take (c .d) y)) ∙ source y Y)

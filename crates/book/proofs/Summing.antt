@@ -14,6 +14,7 @@ use Rattle.table.specs.Table.{Settings, Table, Row, mass, row, rows}
 use Rattle.table.specs.Reading.{shares}
 use Rattle.table.specs.Sound.{Fine}
 use Rattle.table.proofs.Rows.{Additive}
+use Rattle.table.proofs.Soundness.{sum-low}
 use Rattle.book.specs.Book.{Numbered, readingsOf, Carries}
 use Rattle.book.specs.Withdraw.{withdrawn}
 use Rattle.book.proofs.Withdrawing.{withdrawn-fine, withdrawn-carries, withdrawn-sums}
@@ -22,17 +23,10 @@ use Rattle.book.proofs.Withdrawing.{withdrawn-fine, withdrawn-carries, 
 no-points : (m : ℕ) (f : ℕ → ℤ) → ((i : ℕ) → i < m → pos 1 ≤ℤ f i) → sum m f ≡ pos 0 → m ≡ 0
 unfolding sum
 no-points zero f h e = omega arith
-no-points (suc m) f h e = absurd (above (sum m f) (f m) (some m f (λ i l. h i (omega arith))) (h m (omega arith)) e)
+no-points (suc m) f h e = absurd (above (sum m f) (f m) (sum-low m f (λ i l. h i (omega arith))) (h m (omega arith)) e)
   where
     above : (a b : ℤ) → pos 0 ≤ℤ a → pos 1 ≤ℤ b → a +ℤ b ≡ pos 0 → ⊥
     above = on _ λ a b. on _ λ c d. simp difs (omega ints)
-
-    some : (m : ℕ) (f : ℕ → ℤ) → ((i : ℕ) → i < m → pos 1 ≤ℤ f i) → pos 0 ≤ℤ sum m f
-    some zero f h = omega arith
-    some (suc m) f h = plus (sum m f) (f m) (some m f (λ i l. h i (omega arith))) (h m (omega arith))
-      where
-        plus : (a b : ℤ) → pos 0 ≤ℤ a → pos 1 ≤ℤ b → pos 0 ≤ℤ (a +ℤ b)
-        plus = on _ λ a b. on _ λ c d. simp difs (omega ints)
 
 pub carried-sums : (c : Settings) (es : List Numbered) (t : Table) → Fine c t → Carries c t es → (f : Row → ℤ) → Additive f
     → over (rows c t) f ≡ over (readingsOf es) (λ r. over (shares (c .d) (c .S) r) f)

@@ -22,10 +22,11 @@ pub record Numbered : Type 0 where
   pub number : ℤ
   pub reading : Reading
 
--- entry j of a list in the book's form: "number, position, value"
+-- the number of entry j of a list in the book's form
 abbrev pub numberAt : ℕ → List ℤ → ℕ → ℤ
 numberAt d l j = at l ((d + 3) * j)
 
+-- entry j: "number, position, value"
 abbrev pub entryOf : ℕ → List ℤ → ℕ → Numbered
 entryOf d l j = record {
   number = numberAt d l j;
@@ -71,6 +72,7 @@ bookSound c b = let l = b .book in let t = b .table in
     leb (t .n) (b .room)
     && (all (t .n) (λ j. keepsLimits (entryOf (c .d) l j .reading)) && numbersApart (t .n) (numberAt (c .d) l) && sumsTheirs c t (λ j. entryOf (c .d) l j .reading))
 
+-- all of soundness: document 01's, and what the book adds
 abbrev pub soundWithBook : Settings → Booked → Bool
 soundWithBook c b = sound c (b .table) && bookSound c b
 

@@ -14,10 +14,11 @@ use Rattle.table.specs.Pour.{setPair, pour}
 use Rattle.table.specs.Reading.{Reading, shares}
 use Rattle.book.specs.Book.{Booked, entryOf}
 
--- "subtracts the reading's weights": its shares poured with the other sign
+-- a share with the other sign
 abbrev pub negated : Row → Row
 negated r = record { key = r .key; mass = negℤ (r .mass); value = negℤ (r .value) }
 
+-- "subtracts the reading's weights": its shares poured with the other sign
 abbrev pub lowered : Settings → Table → List Row → Table
 lowered c t rs = pour c t (map negated rs)
 
@@ -51,6 +52,7 @@ unfoldable pub afresh : ℕ → (ℕ → List ℤ) → ℕ → List ℕ
 afresh C key zero = replicate (2 * C) 0
 afresh C key (suc i) = let l = afresh C key i in set l (search C key (entryAt l) (key i)) (suc i)
 
+-- the points of t with such an index, and n readings
 abbrev pub reindexed : Settings → Table → ℕ → Table
 reindexed c t n = record { n = n; m = t .m; keys = t .keys; sums = t .sums; index = afresh (c .C) (key c t) (t .m) }
 

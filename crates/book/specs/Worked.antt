@@ -14,9 +14,11 @@ use Rattle.book.specs.Calls.{freshBooked, refusal, enter, mergeRefusal, 
 abbrev pub workedBook : List ℤ
 workedBook = pos 7 ∷ pos 3 ∷ negsuc 2 ∷ pos 10 ∷ negsuc 2 ∷ pos 2 ∷ negsuc 1 ∷ pos 4 ∷ pos 9 ∷ pos 9 ∷ pos 9 ∷ pos 9 ∷ []
 
+-- their table with this book, of room 3, in which something else stands past the second entry
 abbrev pub workedTable : Booked
 workedTable = record { table = logTable; room = 3; book = workedBook }
 
+-- each of the two taken back, and both
 pub record WithdrawCases : Type 0 where
   pub is-sound : soundWithBook (ofLog 8) workedTable ≡ true
   pub first-back : rows (ofLog 8) (without (ofLog 8) workedTable 0 .table) ≡ record { key = pos 1 ∷ []; mass = pos 4; value = pos 16 } ∷ []
@@ -30,9 +32,11 @@ pub record WithdrawCases : Type 0 where
 abbrev pub three : Settings
 three = record { d = 2; S = 2; C = 8 }
 
+-- the list of them, in the book's form
 abbrev pub threeList : List ℤ
 threeList = pos 7 ∷ pos 3 ∷ negsuc 0 ∷ negsuc 1 ∷ pos 5 ∷ negsuc 2 ∷ pos 30 ∷ negsuc 9 ∷ negsuc 19 ∷ pos 7 ∷ pos 0 ∷ pos 2 ∷ pos 2 ∷ negsuc 3 ∷ negsuc 2 ∷ []
 
+-- entered into a fresh table
 abbrev pub threeTable : Booked
 threeTable = enter three (freshBooked three 4) threeList .booked
 
@@ -50,6 +54,7 @@ threeAfter = record {
   book = negsuc 2 ∷ pos 30 ∷ negsuc 9 ∷ negsuc 19 ∷ pos 7 ∷ pos 0 ∷ pos 2 ∷ pos 2 ∷ negsuc 3 ∷ negsuc 2 ∷ pos 0 ∷ pos 0 ∷ pos 0 ∷ pos 0 ∷ pos 0 ∷ pos 0 ∷ pos 0 ∷ pos 0 ∷ pos 0 ∷ pos 0 ∷ [];
 }
 
+-- withdrawing to the byte, and 19, 20 and 7 in their order
 pub record CallCases : Type 0 where
   -- to the byte
   pub taken-back : afterWithdraw three threeTable (pos 7) ≡ threeAfter

@@ -22,7 +22,8 @@ use Rattle.table.proofs.Keeping.{fresh-fine, parsed-size, mergeable, merged-add
 use Rattle.table.proofs.Shares.{accepted}
 use Rattle.table.proofs.Entering.{enter-ind, enterAll-adds, enter-all}
 use Rattle.table.proofs.Calls.{fresh-done, enter-done, enter-refused, merge-done, merge-refused}
-use Rattle.listing.proofs.Rising.{all-append, all-take}
+use Rattle.table.proofs.Lists.{all-append}
+use Rattle.listing.proofs.Rising.{all-take}
 use Rattle.reader.specs.Items.{settingsOf}
 use Rattle.log.specs.Loading.{startRefusal, load}
 use Rattle.reader.specs.Walk.{items, before}

@@ -14,6 +14,11 @@ use Rattle.whole.proofs.Sum.{sum-first, over-append}
 use Rattle.whole.proofs.Lists.{tab-cong}
 
 module _ {A : Type 0} where
+  -- ---- two lists one after the other
+  pub all-append : (Q : A → Type 0) (l m : List A) → All Q l → All Q m → All Q (l ++ m)
+  all-append Q [] m h k = k
+  all-append Q (a ∷ l) m h k = (h .0, all-append Q l m (h .1) k)
+
   -- ---- f 0, …, f (n - 1)
   pub tab-snoc : (n : ℕ) (f : ℕ → A) → tab (suc n) f ≡ tab n f ++ (f n ∷ [])
   unfolding tab

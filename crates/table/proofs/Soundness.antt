@@ -152,7 +152,7 @@ pub fine-searched : (c : Settings) (t : Table) → Fine c t → Searchable (c .d
 fine-searched c t F = table-searched c t (F .ranged) (F .shape) (F .sound .indexed .sparse)
 
 -- ---- no mass passes the sum of the masses
-sum-low : (n : ℕ) (f : ℕ → ℤ) → ((i : ℕ) → i < n → pos 1 ≤ℤ f i) → pos 0 ≤ℤ sum n f
+pub sum-low : (n : ℕ) (f : ℕ → ℤ) → ((i : ℕ) → i < n → pos 1 ≤ℤ f i) → pos 0 ≤ℤ sum n f
 unfolding sum
 sum-low zero f h = ≤ℤ-refl (pos 0)
 sum-low (suc n) f h = lin (sum n f) (f n) (sum-low n f (λ i l. h i (omega arith))) (h n (le-refl (suc n)))
