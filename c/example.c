@@ -1,7 +1,7 @@
 /*
  * A small use of vimrothi.h: one table is made by hand, a second one comes from a log that was cut, and the two
- * are merged, listed and asked; last, the log's report is printed. It ends with status 1 where something is refused
- * that should not be.
+ * are merged, listed and asked. Then one reading is taken back, and what is left is listed and asked again; last, the
+ * log's report is printed. It ends with status 1 where something is refused that should not be.
  *
  *   cc -std=c99 -Wall -Wextra -Wpedantic -Werror -O2 -o example example.c ../target/staticlib/libexport.a
  */
@@ -10,18 +10,19 @@
 #include <stdio.h>
 #include <stdlib.h>
 
-/* Dimension 1, fineness 2, room for 8 points. */
-enum { D = 1, FINENESS = 2, CAPACITY = 8, QUERIES = 4 };
+/* Dimension 1, fineness 2, room for 8 points and for 4 readings; so many numbers of a reading. */
+enum { D = 1, FINENESS = 2, CAPACITY = 8, ROOM = 4, WIDTH = D + 3, QUERIES = 4 };
 
 struct table {
     struct vimrothi_head head;
     int32_t keys[D * CAPACITY];
     int64_t sums[2 * CAPACITY];
     uint16_t index[2 * CAPACITY];
+    int32_t book[WIDTH * ROOM];
 };
 
-/* The three arrays of a table with their lengths, as every call takes them. */
-#define MEMORY(t) (t)->keys, D * CAPACITY, (t)->sums, 2 * CAPACITY, (t)->index, 2 * CAPACITY
+/* The four arrays of a table with their lengths, as every call takes them. */
+#define MEMORY(t) (t)->keys, D * CAPACITY, (t)->sums, 2 * CAPACITY, (t)->index, 2 * CAPACITY, (t)->book, WIDTH * ROOM
 
 /* Ends the program unless a call answered the number that was expected of it. */
 static void expect(const char *call, uint8_t answered, uint8_t expected) {
@@ -31,30 +32,39 @@ static void expect(const char *call, uint8_t answered, uint8_t expected) {
     }
 }
 
-/* The first tablet: 10 at (3, -3) and 4 at (2, -2), entered as one list. */
+/* The first tablet: reading 101 is 10 at (3, -3) and 102 is 4 at (2, -2), entered as one list. */
 static void enter_by_hand(struct table *t) {
-    const int32_t list[] = {3, -3, 10, 2, -2, 4};
+    const int32_t list[2 * WIDTH] = {101, 3, -3, 10, 102, 2, -2, 4};
     size_t taken = 0;
-    t->head = (struct vimrothi_head){D, FINENESS, CAPACITY, 0, 0};
+    t->head = (struct vimrothi_head){D, FINENESS, CAPACITY, ROOM, 0, 0};
     expect("fresh", vimrothi_fresh(VIMROTHI_HEAD(t->head), MEMORY(t)), VIMROTHI_DONE);
-    expect("enter", vimrothi_enter(VIMROTHI_HEAD(t->head), MEMORY(t), list, 6, &taken), VIMROTHI_DONE);
+    expect("enter", vimrothi_enter(VIMROTHI_HEAD(t->head), MEMORY(t), list, 2 * WIDTH, &taken), VIMROTHI_DONE);
     printf("by hand: %zu readings taken, %zu points\n", taken, t->head.points);
 }
 
-/* The second tablet: 12 at (5, -5), and the battery went flat in the second reading. */
+/* The second tablet: reading 201 is 12 at (5, -5), and the battery went flat in 202. Numbered readings are of kinds 71
+ * to 75. Unnumbered ones get 0, 1 and so on in each log, and a merge of two such tables is refused with 20. */
 static const uint8_t cut_log[] = {
     0x01, 1, 2, 8, 0,
-    0x11, 5, 0, 0, 0, 0xFB, 0xFF, 0xFF, 0xFF, 12, 0, 0, 0,
-    0x11, 4, 0, 0, 0, 0xFC, 0xFF,
+    0x71, 201, 0, 0, 0, 5, 0, 0, 0, 0xFB, 0xFF, 0xFF, 0xFF, 12, 0, 0, 0,
+    0x71, 202, 0, 0, 0, 4, 0, 0, 0, 0xFC, 0xFF,
 };
 
 /* Loads the readings before the cut, and answers where the cut is. */
 static size_t load_what_is_there(struct table *t) {
     size_t offset = 0;
-    uint8_t number = vimrothi_load(cut_log, sizeof cut_log, VIMROTHI_HEAD(t->head), MEMORY(t), &offset);
+    uint8_t number = vimrothi_load(cut_log, sizeof cut_log, ROOM, VIMROTHI_HEAD(t->head), MEMORY(t), &offset);
     expect("load", number, VIMROTHI_BODY_CUT);
     printf("log: refused with %d at byte %zu; readings before it: %zu\n", number, offset, t->head.readings);
     return offset;
+}
+
+/* The book can be read: its entries are the readings that the table holds. */
+static void print_readings(const struct table *t) {
+    for (size_t i = 0; i < t->head.readings; i++) {
+        const int32_t *entry = t->book + WIDTH * i;
+        printf("reading %d: %d at %d %d\n", (int)entry[0], (int)entry[3], (int)entry[1], (int)entry[2]);
+    }
 }
 
 static void print_points(const struct table *t) {
@@ -94,6 +104,21 @@ static void print_report(size_t bytes) {
     printf("report of %zu bytes:\n%.*s", bytes, (int)written, (const char *)out);
 }
 
+static void print_table(const char *how, const struct table *t) {
+    printf("%s: %zu readings, %zu points\n", how, t->head.readings, t->head.points);
+    print_readings(t);
+    print_points(t);
+    print_answers(t);
+}
+
+/* The probe of reading 201 was fouled: what is left is as if it had never been taken. */
+static void take_back(struct table *t) {
+    uint8_t number = vimrothi_withdraw(VIMROTHI_HEAD(t->head), MEMORY(t), 201);
+    expect("withdraw", number, VIMROTHI_DONE);
+    number = vimrothi_withdraw(VIMROTHI_HEAD(t->head), MEMORY(t), 201);
+    expect("withdraw once more", number, VIMROTHI_NUMBER_NOT_HELD);
+}
+
 int main(void) {
     static struct table ours, theirs;
     enter_by_hand(&ours);
@@ -101,9 +126,9 @@ int main(void) {
     uint8_t number = vimrothi_merge(VIMROTHI_HEAD(ours.head), MEMORY(&ours),
                                     VIMROTHI_HEAD_VALUES(theirs.head), MEMORY(&theirs));
     expect("merge", number, VIMROTHI_DONE);
-    printf("merged: %zu readings, %zu points\n", ours.head.readings, ours.head.points);
-    print_points(&ours);
-    print_answers(&ours);
+    print_table("merged", &ours);
+    take_back(&ours);
+    print_table("without 201", &ours);
     print_report(sizeof cut_log);
     print_report(cut);
     return EXIT_SUCCESS;

@@ -10,25 +10,20 @@ use lib.Signed.{_≤ℤ_, ≤ℤ-refl}
 use lib.Dec.{T}
 use Rattle.whole.specs.Size.{Abs≤}
 use Rattle.whole.specs.Floor.{floor, remainder}
-use Rattle.whole.specs.Sum.{sum, over, all}
+use Rattle.whole.specs.Sum.{sum}
 use Rattle.whole.specs.Lists.{tab, collect}
 use Rattle.whole.specs.Word.{word}
 use Rattle.whole.proofs.Linear.{on, difs, ints}
 use Rattle.whole.proofs.Signed.{zlin}
 use Rattle.whole.proofs.Ring.{le-trans}
 use Rattle.whole.proofs.Size.{zabs}
-use Rattle.lattice.specs.Refusals.{first}
-use Rattle.lattice.specs.Position.{allNear, sumsToZero}
 use Rattle.lattice.specs.Weight.{best, spread, weight}
 use Rattle.lattice.specs.Points.{corner, lastOf, points}
 use Rattle.index.specs.Keys.{same, keyAt, hash, home}
 use Rattle.index.specs.Search.{walk, search as sought}
-use Rattle.index.specs.Indexed.{count, sparse, finding}
-use Rattle.table.specs.Table.{rows, whole}
-use Rattle.table.specs.Sound.{goodKey, goodPair, indexed, sound}
-use Rattle.table.specs.Pour.{setPair, append, raise, pour, newsIn}
-use Rattle.table.specs.Reading.{parsed, shares, refusal}
-use Rattle.table.specs.Calls.{ranged, fits, fresh, enterAll, callRefusal, enter}
+use Rattle.table.specs.Pour.{setPair, append, raise, pour}
+use Rattle.table.specs.Reading.{shares}
+use Rattle.table.specs.Calls.{fresh}
 use Rattle.blur.specs.Blur.{plusStep, minusStep, pass, passes, step, massAfter, valueAfter}
 use Rattle.blur.specs.Theorems.{Between}
 use Rattle.blur.specs.Sheet.{sheet}
@@ -36,11 +31,11 @@ use Rattle.blur.specs.Worked.{BlurCases, AxisCases}
 
 -- ---- the worked log, and two axes
 pub blur-cases : BlurCases
-unfolding floor remainder sum over all tab collect word first allNear sumsToZero best spread weight corner lastOf points same keyAt hash home walk sought count sparse finding rows whole goodKey goodPair indexed sound setPair append raise pour newsIn parsed shares refusal ranged fits fresh enterAll callRefusal enter step plusStep minusStep pass passes massAfter valueAfter sheet
+unfolding floor remainder sum tab collect word best spread weight corner lastOf points same keyAt hash home walk sought setPair append raise pour shares fresh step plusStep minusStep pass passes massAfter valueAfter sheet
 blur-cases = record { mass-at-one = refl; value-at-one = refl; mass-at-two = refl; value-at-two = refl; in-stored-order = refl }
 
 pub axis-cases : AxisCases
-unfolding floor remainder sum over all tab collect word first allNear sumsToZero best spread weight corner lastOf points same keyAt hash home walk sought count sparse finding rows whole goodKey goodPair indexed sound setPair append raise pour newsIn parsed shares refusal ranged fits fresh enterAll callRefusal enter step plusStep minusStep pass passes massAfter valueAfter sheet
+unfolding floor remainder sum tab collect word best spread weight corner lastOf points same keyAt hash home walk sought setPair append raise pour shares fresh step plusStep minusStep pass passes massAfter valueAfter sheet
 axis-cases = record { own-pairs = refl; after-pass-0 = refl; after-pass-1 = refl; after-pass-2 = refl }
 
 -- ---- the numbers after passes depend only on which points are stored and on the numbers before

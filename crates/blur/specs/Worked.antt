@@ -3,7 +3,8 @@ use mathlib.Core.Path.{_≡_}
 use mathlib.Core.List.{[], _∷_}
 use lib.IntN.{pos, negsuc}
 use Rattle.table.specs.Table.{Settings, Table}
-use Rattle.table.specs.Calls.{fresh, enter}
+use Rattle.table.specs.Reading.{Reading, entered}
+use Rattle.table.specs.Calls.{fresh}
 use Rattle.table.specs.Worked.{ofLog, logTable}
 use Rattle.blur.specs.Blur.{blurredMass, blurredValue}
 use Rattle.blur.specs.Sheet.{sheetAfter, blurredSheet}
@@ -22,8 +23,14 @@ pub record BlurCases : Type 0 where
 abbrev pub ofTwo : Settings
 ofTwo = record { d = 2; S = 1; C = 4 }
 
+abbrev pub atOrigin : Reading
+atOrigin = record { position = pos 0 ∷ pos 0 ∷ pos 0 ∷ []; value = pos 10 }
+
+abbrev pub aStepApart : Reading
+aStepApart = record { position = pos 1 ∷ negsuc 1 ∷ pos 1 ∷ []; value = pos 4 }
+
 abbrev pub twoPoints : Table
-twoPoints = (enter ofTwo (fresh ofTwo) (pos 0 ∷ pos 0 ∷ pos 0 ∷ pos 10 ∷ pos 1 ∷ negsuc 1 ∷ pos 1 ∷ pos 4 ∷ [])) .table
+twoPoints = entered ofTwo (entered ofTwo (fresh ofTwo) atOrigin) aStepApart
 
 pub record AxisCases : Type 0 where
   pub own-pairs : sheetAfter ofTwo twoPoints 0 ≡ pos 3 ∷ pos 30 ∷ pos 3 ∷ pos 12 ∷ pos 0 ∷ pos 0 ∷ pos 0 ∷ pos 0 ∷ []

@@ -14,7 +14,7 @@ mod step;
 
 use crate::pass::pass;
 use table::Head;
-use table::fresh::clear_sums;
+use table::clear::clear_sums;
 
 // The first numbers of one sheet into another.
 fn copy_numbers(source: &[i64], target: &mut [i64], count: usize)

@@ -1,6 +1,6 @@
 -- Fresh, enter and merge keep a table sound with its book, and the book has the readings in order of entry, merged ones behind.
 use mathlib.Core.Path.{_≡_, refl, sym, ap, subst, _∙_}
-use mathlib.Core.Bool.{not, _&&_}
+use mathlib.Core.Bool.{Bool, not}
 use mathlib.Core.List.{List, [], _∷_, _++_}
 use Prim.Native.Nat.{ℕ, zero, suc, _+_, _*_, _≤_, _<_}
 use native.Mathlib.Nat.{mul-le-mul-left}
@@ -14,7 +14,7 @@ use Rattle.whole.proofs.Lists.{tab-cong, length-splice, getD-splice-before, get
 use Rattle.whole.proofs.Size.{abs-of}
 use Rattle.whole.proofs.Tests.{and-l, and-r, all-at, T-true}
 use Rattle.lattice.specs.Limits.{most-value, most-readings}
-use Rattle.lattice.specs.Refusals.{settings-differ}
+use Rattle.lattice.specs.Refusals.{number-held}
 use Rattle.lattice.specs.Position.{allNear, sumsToZero}
 use Rattle.lattice.proofs.Tests.{all-pass}
 use Rattle.lattice.proofs.Judging.{judged-none, judged-right}
@@ -31,8 +31,9 @@ use Rattle.table.proofs.Shares.{Accepted}
 use Rattle.table.proofs.Keeping.{accept-adds, reading-acceptable, Mergeable, merged-adds, fresh-fine}
 use Rattle.book.specs.Book.{Numbered, Booked, numberAt, entryOf, entries, soundWithBook, bookSound, OtherNumber, Carries}
 use Rattle.book.specs.Numbers.{holdsNumber, noneMet}
-use Rattle.book.specs.Calls.{number-held, inRange, allFit, roomRanged, heldTest, eachTests, formOf, lentBook, freshRefusal, freshBooked, afterFresh, refusal, entered, mergeRefusal, merged}
+use Rattle.book.specs.Calls.{inRange, allFit, callTests, callRefusal, roomRanged, heldTest, eachTests, bothTests, formOf, lentBook, freshBooked, afterFresh, refusal, entered, mergeRefusal, merged}
 use Rattle.book.specs.Theorems.{FineBook, Holds, FreshKeeps, EnterKeeps, MergeKeeps}
+use Rattle.book.proofs.Answering.{fresh-open}
 use Rattle.book.proofs.Testing.{to-carries, of-carries, at-among, not-yes}
 use Rattle.book.proofs.Entries.{entry-eq}
 use Rattle.book.proofs.Carrying.{fresh-carries, entered-carries, merged-carries}
@@ -92,12 +93,12 @@ form-entry d e h = λ x. record {
         ap (at (formOf e)) p ∙ getD-append-add (e .reading .position) (e .reading .value ∷ []) 0 (pos 0)
 
 -- ---- a reading that is not refused
-record Takes (c : Settings) (b : Booked) (e : Numbered) : Type 0 where
-  accepted : Accepted c (b .table) (e .reading)
-  new : T (not (holdsNumber c b (e .number)))
-  room : b .table .n + 1 ≤ b .room
+pub record Takes (c : Settings) (b : Booked) (e : Numbered) : Type 0 where
+  pub accepted : Accepted c (b .table) (e .reading)
+  pub new : T (not (holdsNumber c b (e .number)))
+  pub room : b .table .n + 1 ≤ b .room
 
-takes : (c : Settings) (b : Booked) (e : Numbered) → length (e .reading .position) ≡ suc (c .d) → b .room ≤ most-readings → refusal c b e ≡ 0 → Takes c b e
+pub takes : (c : Settings) (b : Booked) (e : Numbered) → length (e .reading .position) ≡ suc (c .d) → b .room ≤ most-readings → refusal c b e ≡ 0 → Takes c b e
 unfolding refusal
 takes c b e size most z =
     let r = e .reading in
@@ -162,21 +163,31 @@ fine-of c b r f s =
       sound = and-r (sound c (b .table)) (bookSound c b) s;
     }
 
--- ---- two tables that may be merged
-record Merges (c : Settings) (b : Booked) (e : Settings) (s : Booked) : Type 0 where
-  target : FineBook c b
-  source : FineBook e s
-  mergeable : Mergeable c (b .table) e (s .table)
-  none-met : T (noneMet c b s)
-  room : b .table .n + s .table .n ≤ b .room
+-- ---- a call that is not refused as a whole
+pub record Called (c : Settings) (b : Booked) (more : Bool) : Type 0 where
+  pub fine : FineBook c b
+  pub whole : T more
 
-merges : (c : Settings) (b : Booked) (e : Settings) (s : Booked) → mergeRefusal c b e s ≡ 0 → Merges c b e s
+pub called : (c : Settings) (b : Booked) (more : Bool) → callRefusal c b more ≡ 0 → Called c b more
+unfolding callRefusal
+called c b more e = let p = all-pass (callTests c b more) tt e in
+    record { fine = fine-of c b (p .0) (and-l (allFit c b) more (p .1 .0)) (p .1 .1 .0); whole = and-r (allFit c b) more (p .1 .0) }
+
+-- ---- two tables that may be merged
+pub record Merges (c : Settings) (b : Booked) (e : Settings) (s : Booked) : Type 0 where
+  pub target : FineBook c b
+  pub source : FineBook e s
+  pub mergeable : Mergeable c (b .table) e (s .table)
+  pub none-met : T (noneMet c b s)
+  pub room : b .table .n + s .table .n ≤ b .room
+
+pub merges : (c : Settings) (b : Booked) (e : Settings) (s : Booked) → mergeRefusal c b e s ≡ 0 → Merges c b e s
 unfolding mergeRefusal
 merges c b e s z =
     let x = eqb (c .d) (e .d) in
     let y = eqb (c .S) (e .S) in
     let more = news c (b .table) (keysOf (rows e (s .table))) in
-    let p = all-pass (eachTests c b e s ++ ((x && y, settings-differ) ∷ (noneMet c b s, number-held) ∷ heldTest (b .room) (b .table .n + s .table .n) ∷ roomTest (c .C) (b .table .m + more) ∷ [])) tt z in
+    let p = all-pass (eachTests c b e s ++ bothTests c (b .room) e (noneMet c b s) (b .table .n + s .table .n) (b .table .m + more)) tt z in
     let q = p .1 .1 in
     let r = q .1 .1 in
     let l = r .1 .1 in
@@ -246,9 +257,9 @@ merge-keeps c b e s z =
     fits-most w k B s e h = let m : w * k ≤ w * B = mul-le-mul-left w h in omega arith
 
 pub fresh-keeps : FreshKeeps
-unfolding freshRefusal afterFresh freshBooked base.fresh entries tab
+unfolding afterFresh freshBooked base.fresh entries tab
 fresh-keeps c b z =
-    let p = all-pass _ tt z in
+    let p = fresh-open c b z in
     let R = roomRanged (b .room) in
     let G = to-ranged c (and-l (ranged c) R (p .0)) in
     let q = and-r (ranged c) R (p .0) in

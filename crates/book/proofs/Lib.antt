@@ -13,3 +13,8 @@ pub mod Keeping
 pub mod Booking
 pub mod TakingBack
 pub mod Lowest
+pub mod Answering
+pub mod Written
+pub mod Entering
+pub mod Adding
+pub mod Fine

@@ -10,7 +10,7 @@ use lib.Dec.{T}
 use lib.IntN.{ℤ, pos, natAbs}
 use Rattle.whole.specs.Lists.{All}
 use Rattle.whole.proofs.Tests.{T-false}
-use Rattle.lattice.specs.Refusals.{Tests, first}
+use Rattle.lattice.specs.Refusals.{number-held, Tests, first}
 use Rattle.index.specs.Keys.{eqZ}
 use Rattle.index.specs.Indexed.{count}
 use Rattle.index.proofs.Count.{count-gap}
@@ -18,7 +18,7 @@ use Rattle.index.proofs.Equality.{eqZ-eq}
 use Rattle.table.specs.Reading.{ownTests}
 use Rattle.book.specs.Book.{numberAt, among}
 use Rattle.book.specs.Numbers.{holdsNumber, lowestFrom, lowest}
-use Rattle.book.specs.Calls.{number-held, refusal}
+use Rattle.book.specs.Calls.{refusal}
 use Rattle.book.specs.Theorems.{LowestIsNew, LowestNeverHeld}
 use Rattle.book.proofs.Testing.{yes-not}
 

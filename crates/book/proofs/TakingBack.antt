@@ -12,11 +12,12 @@ use Rattle.whole.proofs.Tests.{and-l}
 use Rattle.lattice.proofs.Tests.{all-pass}
 use Rattle.index.specs.Keys.{eqZ}
 use Rattle.index.proofs.Equality.{eqZ-eq}
+use Rattle.lattice.specs.Refusals.{number-not-held}
 use Rattle.table.specs.Table.{Settings}
 use Rattle.book.specs.Book.{Booked, numberAt, entryOf, entries, among, OtherNumber}
 use Rattle.book.specs.Numbers.{holdsNumber}
 use Rattle.book.specs.Withdraw.{entryWith}
-use Rattle.book.specs.Calls.{number-not-held, allFit, callTests, withdrawRefusal, afterWithdraw}
+use Rattle.book.specs.Calls.{allFit, callTests, withdrawRefusal, afterWithdraw}
 use Rattle.book.specs.Theorems.{FineBook, WithdrawTakesBack}
 use Rattle.book.proofs.Testing.{each-place, to-carries}
 use Rattle.book.proofs.Booking.{fine-of}

@@ -14,18 +14,30 @@ use Rattle.index.specs.Indexed.{count, sparse, finding}
 use Rattle.table.specs.Table.{rows, whole}
 use Rattle.table.specs.Sound.{goodKey, goodPair, indexed, sound}
 use Rattle.table.specs.Pour.{setPair, append, raise, pour, newsIn}
-use Rattle.table.specs.Reading.{parsed, shares, ownRefusal, refusal}
-use Rattle.table.specs.Calls.{ranged, fits, fresh, enterAll, callRefusal, enter}
+use Rattle.table.specs.Reading.{shares, ownRefusal}
+use Rattle.table.specs.Calls.{ranged, fits, fresh}
 use Rattle.book.specs.Book.{entries, among, sumsTheirs, bookSound}
 use Rattle.book.specs.Numbers.{lowestFrom}
 use Rattle.book.specs.Withdraw.{pointOf, vacated, leave, afresh, withdrawn, closed, entryWith}
-use Rattle.book.specs.Calls.{freshBooked, callRefusal as callNumber, refusal as readingNumber, enterAll as enterEach, parsed as parsedList, enter as enterList, mergeRefusal, withdrawRefusal, afterWithdraw}
-use Rattle.book.specs.Worked.{WithdrawCases, CallCases}
+use Rattle.book.specs.Calls.{freshBooked, callRefusal, refusal, enterAll, parsed, enter, mergeRefusal, withdrawRefusal, afterWithdraw}
+use Rattle.book.specs.Worked.{WithdrawCases, CallCases, RoomCases, OrderCases, ReadingCases}
 
 pub worked : WithdrawCases
-unfolding floor remainder sum over all tab collect word first allNear sumsToZero best spread weight corner lastOf points same keyAt hash home walk sought count sparse finding rows whole goodKey goodPair indexed sound setPair append raise pour newsIn parsed shares ownRefusal refusal ranged fits fresh enterAll callRefusal enter among sumsTheirs bookSound pointOf vacated leave afresh withdrawn closed
+unfolding floor remainder sum over all tab collect word first allNear sumsToZero best spread weight corner lastOf points same keyAt hash home walk sought count sparse finding rows whole goodKey goodPair indexed sound setPair append raise pour newsIn shares ownRefusal ranged fits fresh among sumsTheirs bookSound pointOf vacated leave afresh withdrawn closed
 worked = record { is-sound = refl; first-back = refl; first-index = refl; first-book = refl; first-sound = refl; second-back = refl; both-back = refl }
 
 pub calls : CallCases
-unfolding floor remainder sum over all tab collect word first allNear sumsToZero best spread weight corner lastOf points same keyAt hash home walk sought count sparse finding rows whole goodKey goodPair indexed sound setPair append raise pour newsIn parsed shares ownRefusal refusal ranged fits fresh enterAll callRefusal enter among sumsTheirs bookSound pointOf vacated leave afresh withdrawn closed entries lowestFrom entryWith freshBooked callNumber readingNumber enterEach parsedList enterList mergeRefusal withdrawRefusal afterWithdraw
+unfolding floor remainder sum over all tab collect word first allNear sumsToZero best spread weight corner lastOf points same keyAt hash home walk sought count sparse finding rows whole goodKey goodPair indexed sound setPair append raise pour newsIn shares ownRefusal ranged fits fresh among sumsTheirs bookSound pointOf vacated leave afresh withdrawn closed entries lowestFrom entryWith freshBooked callRefusal refusal enterAll parsed enter mergeRefusal withdrawRefusal afterWithdraw
 calls = record { taken-back = refl; not-held = refl; held-again = refl; twenty-first = refl; seven-next = refl; lowest-one = refl; met = refl }
+
+pub room-cases : RoomCases
+unfolding floor remainder sum over all tab collect word first allNear sumsToZero best spread weight corner lastOf points same keyAt hash home walk sought count sparse finding rows whole goodKey goodPair indexed sound setPair append raise pour newsIn shares ownRefusal ranged fits fresh among sumsTheirs bookSound entries freshBooked callRefusal refusal enterAll parsed enter
+room-cases = record { both-taken = refl; room-for-two = refl; room-for-one = refl; book-for-one = refl }
+
+pub order-cases : OrderCases
+unfolding floor remainder sum over all tab collect word first allNear sumsToZero best spread weight corner lastOf points same keyAt hash home walk sought count sparse finding rows whole goodKey goodPair indexed sound setPair append raise pour newsIn shares ownRefusal ranged fits fresh among sumsTheirs bookSound entries freshBooked callRefusal refusal enterAll parsed enter
+order-cases = record { seven-before-eight = refl; twenty-before-seven = refl; six-before-twenty = refl }
+
+pub reading-cases : ReadingCases
+unfolding floor remainder sum over all tab collect word first allNear sumsToZero best spread weight corner lastOf points same keyAt hash home walk sought count sparse finding rows whole goodKey goodPair indexed sound setPair append raise pour newsIn shares ownRefusal ranged fits fresh among sumsTheirs bookSound entries freshBooked callRefusal refusal enterAll parsed enter
+reading-cases = record { farthest-taken = refl; beyond = refl; sum-other = refl }

@@ -5,17 +5,21 @@ use mathlib.Core.Bool.{false}
 use mathlib.Core.List.{List, [], _∷_, _++_}
 use Prim.Native.Nat.{ℕ, suc, _+_, _*_, _≤_, _<_}
 use lib.Dec.{T}
-use lib.IntN.{ℤ, pos}
-use lib.ListN.{length}
-use Rattle.whole.specs.Lists.{tab}
+use lib.IntN.{ℤ, pos, _*ℤ_}
+use lib.ListN.{length, take}
+use Rattle.whole.specs.Lists.{at, tab}
 use Rattle.lattice.specs.Limits.{most-readings}
-use Rattle.table.specs.Table.{Settings, Table}
+use Rattle.lattice.specs.Refusals.{number-held}
+use Rattle.lattice.specs.Lattice.{Point}
+use Rattle.lattice.specs.Weight.{weight}
+use Rattle.table.specs.Table.{Settings, Table, held}
 use Rattle.table.specs.Reading.{Reading}
 use Rattle.table.specs.Sound.{Fine}
+use Rattle.table.specs.Theorems.{plus}
 use Rattle.book.specs.Book.{Numbered, Booked, numberAt, entryOf, entries, sumsTheirs, bookSound, Theirs, Carries}
 use Rattle.book.specs.Numbers.{holdsNumber, lowest}
 use Rattle.book.specs.Withdraw.{without}
-use Rattle.book.specs.Calls.{number-held, freshRefusal, afterFresh, refusal, entered, mergeRefusal, merged, withdrawRefusal, afterWithdraw}
+use Rattle.book.specs.Calls.{freshRefusal, afterFresh, refusal, entered, parsed, enterRefusal, enter, mergeRefusal, merged, withdrawRefusal, afterWithdraw}
 
 -- the test "the sums are theirs" passes exactly where at every lattice point the table holds what the book's readings give
 abbrev pub SumsAreTheFact : Type 0
@@ -68,9 +72,25 @@ abbrev pub EnterKeeps : Type 0
 EnterKeeps = (c : Settings) (b : Booked) (e : Numbered) → length (e .reading .position) ≡ suc (c .d) → FineBook c b → refusal c b e ≡ 0
     → Holds c (entered c b e) (entries (c .d) (b .table .n) (b .book) ++ (e ∷ []))
 
+-- a whole call of enter keeps it too, and the book has those taken behind the others: "The table holds those taken and nothing of the refused one."
+abbrev pub EnterLeaves : Type 0
+EnterLeaves = (c : Settings) (b : Booked) (l : List ℤ) → enterRefusal c b l ≡ 0
+    → Holds c (enter c b l .booked) (entries (c .d) (b .table .n) (b .book) ++ take (enter c b l .taken) (parsed (c .d) l))
+
 abbrev pub MergeKeeps : Type 0
 MergeKeeps = (c : Settings) (b : Booked) (e : Settings) (s : Booked) → mergeRefusal c b e s ≡ 0
     → Holds c (merged c b e s) (entries (c .d) (b .table .n) (b .book) ++ entries (e .d) (s .table .n) (s .book))
+
+-- "To enter a reading (x, v)": at every lattice point the map after is the map before plus (weight, weight·v)
+abbrev pub EnterAdds : Type 0
+EnterAdds = (c : Settings) (b : Booked) (e : Numbered) → length (e .reading .position) ≡ suc (c .d) → FineBook c b → refusal c b e ≡ 0 → (y : List ℤ) → Point (c .d) y
+    → held c (entered c b e .table) (take (c .d) y)
+    ≡ plus (held c (b .table) (take (c .d) y)) (let w = pos (weight (c .d) (c .S) (at (e .reading .position)) (at y)) in (w, w *ℤ e .reading .value))
+
+-- after a merge it is the sum of the two
+abbrev pub MergeAdds : Type 0
+MergeAdds = (c : Settings) (b : Booked) (e : Settings) (s : Booked) → mergeRefusal c b e s ≡ 0 → (k : List ℤ)
+    → held c (merged c b e s .table) k ≡ plus (held c (b .table) k) (held e (s .table) k)
 
 -- "the lowest number from 0 up not held in that table": it is not held, all below it are, and it is at most the number of readings
 pub record Lowest (c : Settings) (b : Booked) : Type 0 where

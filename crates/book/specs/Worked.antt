@@ -2,13 +2,14 @@
 use mathlib.Core.Path.{_≡_}
 use mathlib.Core.Bool.{true}
 use mathlib.Core.List.{List, [], _∷_}
+use Prim.Native.Nat.{ℕ}
 use lib.IntN.{ℤ, pos, negsuc}
 use Rattle.table.specs.Table.{Settings, rows}
 use Rattle.table.specs.Worked.{ofLog, logTable}
-use Rattle.book.specs.Book.{Booked, soundWithBook}
+use Rattle.book.specs.Book.{Numbered, Booked, soundWithBook}
 use Rattle.book.specs.Numbers.{lowest}
 use Rattle.book.specs.Withdraw.{without}
-use Rattle.book.specs.Calls.{freshBooked, refusal, enter, mergeRefusal, withdrawRefusal, afterWithdraw}
+use Rattle.book.specs.Calls.{Outcome, freshBooked, refusal, enter, mergeRefusal, withdrawRefusal, afterWithdraw}
 
 -- the readings are numbered 7 and -3
 abbrev pub workedBook : List ℤ
@@ -66,3 +67,34 @@ pub record CallCases : Type 0 where
   -- 0 is held, so 1 is the lowest
   pub lowest-one : lowest three threeTable ≡ 1
   pub met : mergeRefusal three threeTable three threeTable ≡ 20
+
+-- a list of readings in the book's form, entered into a fresh table of the worked log's settings with room for C points and B readings
+abbrev pub afterList : ℕ → ℕ → List ℤ → Outcome
+afterList C B l = enter (ofLog C) (freshBooked (ofLog C) B) l
+
+-- the two readings of the worked log, numbered 7 and -3
+abbrev pub bothReadings : List ℤ
+bothReadings = pos 7 ∷ pos 3 ∷ negsuc 2 ∷ pos 10 ∷ negsuc 2 ∷ pos 2 ∷ negsuc 1 ∷ pos 4 ∷ []
+
+-- "Only the points that are new count.": the second reading has one point, which is stored already, so room for two points is enough, and for one is not. "7 now comes above B".
+pub record RoomCases : Type 0 where
+  pub both-taken : afterList 8 2 bothReadings .taken ≡ 2
+  pub room-for-two : afterList 2 2 bothReadings .number ≡ 0
+  pub room-for-one : afterList 1 2 bothReadings .number ≡ 8
+  pub book-for-one : afterList 2 1 bothReadings .number ≡ 7
+
+-- a reading far from the others
+abbrev pub farOff : ℤ → ℤ → Numbered
+farOff number value = record { number = number; reading = record { position = pos 100 ∷ negsuc 99 ∷ []; value = value } }
+
+-- for each reading 4, 5, 6, 20, 7, 8: the number of the first, in a table that is full of readings and of points
+pub record OrderCases : Type 0 where
+  pub seven-before-eight : refusal (ofLog 2) (afterList 2 2 bothReadings .booked) (farOff (pos 8) (pos 0)) ≡ 7
+  pub twenty-before-seven : refusal (ofLog 2) (afterList 2 2 bothReadings .booked) (farOff (pos 7) (pos 0)) ≡ 20
+  pub six-before-twenty : refusal (ofLog 2) (afterList 2 2 bothReadings .booked) (farOff (pos 7) (pos 1000001)) ≡ 6
+
+-- "(1000000,-1000000) is taken; (1000001,0) is 4, not 5; (5,-4) is 5."
+pub record ReadingCases : Type 0 where
+  pub farthest-taken : afterList 8 1 (pos 0 ∷ pos 1000000 ∷ negsuc 999999 ∷ pos 0 ∷ []) .number ≡ 0
+  pub beyond : afterList 8 1 (pos 0 ∷ pos 1000001 ∷ pos 0 ∷ pos 0 ∷ []) .number ≡ 4
+  pub sum-other : afterList 8 1 (pos 0 ∷ pos 5 ∷ negsuc 3 ∷ pos 0 ∷ []) .number ≡ 5

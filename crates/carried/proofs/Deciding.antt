@@ -4,7 +4,7 @@ use mathlib.Core.Bool.{Bool, true, false}
 use Prim.Native.Nat.{suc, _+_, _*_, _≤_, _<_}
 use native.Mathlib.Nat.{mul-le-mul-left}
 use native.Mathlib.Omega.{arith}
-use lib.Dec.{eqb, eqb→eq}
+use lib.Dec.{eqb→eq}
 use lib.ListN.{length}
 use borrow.Author.Tests.{le-leb, lt-leb}
 use Rattle.whole.specs.Sum.{all}
@@ -15,12 +15,12 @@ use Rattle.lattice.specs.Refusals.{first, settings-out-of-range, other-length, 
 use Rattle.table.specs.Table.{Settings, Table}
 use Rattle.table.specs.Reading.{ownRefusal}
 use Rattle.table.specs.Sound.{sound, Ranged, Shape}
-use Rattle.table.specs.Calls.{ranged, fits}
+use Rattle.table.specs.Calls.{ranged}
 use Rattle.table.proofs.Refusals.{T-of}
 use Rattle.table.proofs.Limits.{to-lawful}
 use Rattle.table.proofs.Soundness.{to-sound}
 use Rattle.book.specs.Book.{Booked, numberAt, entryOf, keepsLimits, numbersApart, sumsTheirs, bookSound, soundWithBook}
-use Rattle.book.specs.Calls.{roomRanged, callRefusal}
+use Rattle.book.specs.Calls.{inRange, allFit, callRefusal}
 use Rattle.spread.specs.Spreading.{Comparable}
 
 -- ---- soundness with the book
@@ -73,38 +73,25 @@ module _ (c : Settings) (b : Booked) where
     }
 
 -- ---- 1, 2 and 3
-abbrev pub book-fits : Settings → Booked → Bool
-book-fits c b = eqb (length (b .book)) ((c .d + 3) * b .room)
-
 module _ (c : Settings) (b : Booked) (more : Bool) where
-  pub call-one : ranged c ≡ false → settings-out-of-range ≡ callRefusal c b more
+  pub call-one : inRange c b ≡ false → settings-out-of-range ≡ callRefusal c b more
   unfolding callRefusal first
   call-one e = sym (rw e refl)
 
-  module _ (e : ranged c ≡ true) where
-    pub call-room : roomRanged (b .room) ≡ false → settings-out-of-range ≡ callRefusal c b more
+  module _ (e : inRange c b ≡ true) where
+    pub call-two : allFit c b ≡ false → other-length ≡ callRefusal c b more
     unfolding callRefusal first
-    call-room f = sym (rw (e, f) refl)
+    call-two f = sym (rw (e, f) refl)
 
-    module _ (f : roomRanged (b .room) ≡ true) where
-      pub call-two : fits c (b .table) ≡ false → other-length ≡ callRefusal c b more
+    module _ (f : allFit c b ≡ true) where
+      pub call-more : more ≡ false → other-length ≡ callRefusal c b more
       unfolding callRefusal first
-      call-two g = sym (rw (e, f, g) refl)
+      call-more m = sym (rw (e, f, m) refl)
 
-      module _ (g : fits c (b .table) ≡ true) where
-        pub call-book : book-fits c b ≡ false → other-length ≡ callRefusal c b more
-        unfolding callRefusal first
-        call-book h = sym (rw (e, f, g, h) refl)
+      pub call-three : more ≡ true → soundWithBook c b ≡ false → not-sound ≡ callRefusal c b more
+      unfolding callRefusal first
+      call-three m s = sym (rw (e, f, m, s) refl)
 
-        module _ (h : book-fits c b ≡ true) where
-          pub call-more : more ≡ false → other-length ≡ callRefusal c b more
-          unfolding callRefusal first
-          call-more m = sym (rw (e, f, g, h, m) refl)
-
-          pub call-three : more ≡ true → soundWithBook c b ≡ false → not-sound ≡ callRefusal c b more
-          unfolding callRefusal first
-          call-three m s = sym (rw (e, f, g, h, m, s) refl)
-
-          pub call-none : more ≡ true → soundWithBook c b ≡ true → 0 ≡ callRefusal c b more
-          unfolding callRefusal first
-          call-none m s = sym (rw (e, f, g, h, m, s) refl)
+      pub call-none : more ≡ true → soundWithBook c b ≡ true → 0 ≡ callRefusal c b more
+      unfolding callRefusal first
+      call-none m s = sym (rw (e, f, m, s) refl)

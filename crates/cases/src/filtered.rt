@@ -33,7 +33,14 @@ fn print_answers(values: &[i32], codes: &[u8]) {
     }
 }
 
-fn show_answers(head: Head, keys: &[i32], sums: &[i64], index: &[u16], queries: &[i32]) {
+fn show_answers(
+    head: Head,
+    keys: &[i32],
+    sums: &[i64],
+    index: &[u16],
+    book: &[i32],
+    queries: &[i32],
+) {
     let mut first = [9i64; 16];
     let mut second = [9i64; 16];
     let mut values = [9i32; 5];
@@ -43,6 +50,7 @@ fn show_answers(head: Head, keys: &[i32], sums: &[i64], index: &[u16], queries: 
         keys,
         sums,
         index,
+        book,
         &mut first,
         &mut second,
         queries,
@@ -62,6 +70,14 @@ pub fn show_filtered(readings: &[i32], queries: &[i32], fineness: u32) {
     let mut keys = [0i32; 8];
     let mut sums = [0i64; 16];
     let mut index = [0u16; 16];
-    let head = enter_fresh(fineness, 8, &mut keys, &mut sums, &mut index, readings);
-    show_answers(head, &keys, &sums, &index, queries);
+    let mut book = [0i32; 8];
+    let head = enter_fresh(
+        fineness,
+        &mut keys,
+        &mut sums,
+        &mut index,
+        &mut book,
+        readings,
+    );
+    show_answers(head, &keys, &sums, &index, &book, queries);
 }

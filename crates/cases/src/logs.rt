@@ -75,6 +75,23 @@ fn show_contents() {
     );
 }
 
+// The worked log with its readings numbered 7 and -3, and with a reading behind it whose number the
+// first reading got; and the other way round, where each has its own.
+fn show_numbered() {
+    show_log(
+        b"its readings numbered",
+        b"\x01\x01\x02\x08\0\x71\x07\0\0\0\x03\0\0\0\xFD\xFF\xFF\xFF\x0A\0\0\0\x71\xFD\xFF\xFF\xFF\x02\0\0\0\xFE\xFF\xFF\xFF\x04\0\0\0\x21\x04\0\0\0\xFC\xFF\xFF\xFF\x21\x64\0\0\0\x9C\xFF\xFF\xFF",
+    );
+    show_log(
+        b"number 0 behind one that got it",
+        b"\x01\x01\x02\x08\0\x11\x03\0\0\0\xFD\xFF\xFF\xFF\x0A\0\0\0\x71\0\0\0\0\x02\0\0\0\xFE\xFF\xFF\xFF\x04\0\0\0",
+    );
+    show_log(
+        b"number 0 before one that gets 1",
+        b"\x01\x01\x02\x08\0\x71\0\0\0\0\x02\0\0\0\xFE\xFF\xFF\xFF\x04\0\0\0\x11\x03\0\0\0\xFD\xFF\xFF\xFF\x0A\0\0\0",
+    );
+}
+
 pub fn show_logs() {
     show_cuts(
         b"\x01\x01\x02\x08\0\x11\x03\0\0\0\xFD\xFF\xFF\xFF\x0A\0\0\0\x11\x02\0\0\0\xFE\xFF\xFF\xFF\x04\0\0\0\x21\x04\0\0\0\xFC\xFF\xFF\xFF\x21\x64\0\0\0\x9C\xFF\xFF\xFF",
@@ -85,4 +102,5 @@ pub fn show_logs() {
     );
     show_forms();
     show_contents();
+    show_numbered();
 }

@@ -134,20 +134,22 @@ fn main() {
     show_rounded(-2, 3);
     show_remainder(-4, 3);
     show_remainder(-1, 3);
-    show_entered(&[3, -3, 10, 2, -2, 4], 2);
-    show_merged(&[2, -2, 4], &[3, -3, 10], 2);
+    show_entered(&[7, 3, -3, 10, -3, 2, -2, 4], 2);
+    show_entered(&[7, 3, -3, 10, 7, 2, -2, 4], 2);
+    show_merged(&[-3, 2, -2, 4], &[7, 3, -3, 10], 2);
+    show_merged(&[7, 2, -2, 4], &[7, 3, -3, 10], 2);
     show_withdrawn(7);
     show_withdrawn(-3);
     show_withdrawn(0);
-    show_entered(&[1000000, -1000000, 0], 1);
-    show_entered(&[1000001, 0, 0], 1);
-    show_entered(&[5, -4, 0], 1);
+    show_entered(&[0, 1000000, -1000000, 0], 1);
+    show_entered(&[0, 1000001, 0, 0], 1);
+    show_entered(&[0, 5, -4, 0], 1);
     show_filtered(
-        &[3, -3, 10, 2, -2, 4],
+        &[7, 3, -3, 10, -3, 2, -2, 4],
         &[3, -3, 4, -4, 100, -100, 1000001, 0, 5, -4],
         2,
     );
     show_filtered(&[], &[3, -3, 4, -4, 100, -100, 1000001, 0, 5, -4], 2);
-    show_filtered(&[3, -3, 10], &[3, -3], 2);
+    show_filtered(&[7, 3, -3, 10], &[3, -3], 2);
     show_logs();
 }

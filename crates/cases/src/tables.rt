@@ -1,11 +1,13 @@
-// The calls on tables of dimension 1, with the readings of document 01's log and of its small numbers.
+// The calls on tables of dimension 1, with the readings of document 01's log and of its small numbers,
+// each with a number.
 use crate::print::print_number;
+use crate::print::print_numbers;
+use book::fresh::fresh;
 use enter::enter;
 use libc::STDOUT_FILENO;
 use listing::list;
 use merge::merge;
 use table::Head;
-use table::fresh::fresh;
 
 // A coordinate, a mass or a value sum; those of the cases are far within 32 bits.
 pub fn print_small(x: i64) {
@@ -54,8 +56,15 @@ fn print_points(keys: &[i32], sums: &[i64], order: &[u16], points: usize) {
 }
 
 // HEAD: d, S, readings, points; then the points in listing order.
-pub fn print_table(head: Head, keys: &[i32], sums: &[i64], index: &[u16], order: &mut [u16]) {
-    let number = list(head, keys, sums, index, order);
+pub fn print_table(
+    head: Head,
+    keys: &[i32],
+    sums: &[i64],
+    index: &[u16],
+    book: &[i32],
+    order: &mut [u16],
+) {
+    let number = list(head, keys, sums, index, book, order);
     if number != 0 {
         return;
     }
@@ -68,17 +77,27 @@ pub fn print_table(head: Head, keys: &[i32], sums: &[i64], index: &[u16], order:
     print_points(keys, sums, order, head.points);
 }
 
-// A list of readings entered into a fresh table: how many were taken, and the number.
+// All of a book, also past its last entry.
+pub fn print_book(book: &[i32]) {
+    io::write_all(STDOUT_FILENO, b"BOOK");
+    print_numbers(book);
+    io::write_all(STDOUT_FILENO, b"\n");
+}
+
+// A list of readings entered into a fresh table with room for as many points as there are keys: how
+// many were taken, and the number. The book has entries of 4 numbers.
 pub fn enter_fresh(
     fineness: u32,
-    capacity: usize,
     keys: &mut [i32],
     sums: &mut [i64],
     index: &mut [u16],
+    book: &mut [i32],
     readings: &[i32],
 ) -> Head {
-    let made = fresh(1, fineness, capacity, keys, sums, index);
-    let entered = enter(made.head, keys, sums, index, readings);
+    let capacity = keys.len();
+    let room = book.len() / 4;
+    let made = fresh(1, fineness, capacity, room, keys, sums, index, book);
+    let entered = enter(made.head, keys, sums, index, book, readings);
     io::write_all(STDOUT_FILENO, b"TAKEN");
     print_count(entered.taken);
     print_count(entered.number as usize);
@@ -91,9 +110,17 @@ pub fn show_entered(readings: &[i32], fineness: u32) {
     let mut keys = [0i32; 8];
     let mut sums = [0i64; 16];
     let mut index = [0u16; 16];
+    let mut book = [0i32; 8];
     let mut order = [0u16; 8];
-    let head = enter_fresh(fineness, 8, &mut keys, &mut sums, &mut index, readings);
-    print_table(head, &keys, &sums, &index, &mut order);
+    let head = enter_fresh(
+        fineness,
+        &mut keys,
+        &mut sums,
+        &mut index,
+        &mut book,
+        readings,
+    );
+    print_table(head, &keys, &sums, &index, &book, &mut order);
 }
 
 // A source of readings merged into a table, of another capacity: the number, and the table.
@@ -102,18 +129,20 @@ fn show_source_merged(
     keys: &mut [i32],
     sums: &mut [i64],
     index: &mut [u16],
+    book: &mut [i32],
     order: &mut [u16],
     readings: &[i32],
 ) {
     let mut source_keys = [0i32; 5];
     let mut source_sums = [0i64; 10];
     let mut source_index = [0u16; 10];
+    let mut source_book = [0i32; 4];
     let source = enter_fresh(
         head.fineness,
-        5,
         &mut source_keys,
         &mut source_sums,
         &mut source_index,
+        &mut source_book,
         readings,
     );
     let merged = merge(
@@ -121,15 +150,18 @@ fn show_source_merged(
         keys,
         sums,
         index,
+        book,
         source,
         &source_keys,
         &source_sums,
         &source_index,
+        &source_book,
     );
     io::write_all(STDOUT_FILENO, b"MERGED");
     print_count(merged.number as usize);
     io::write_all(STDOUT_FILENO, b"\n");
-    print_table(merged.head, keys, sums, index, order);
+    print_table(merged.head, keys, sums, index, book, order);
+    print_book(book);
 }
 
 // Two lists, each in a table of its own, and the second table merged into the first.
@@ -137,7 +169,23 @@ pub fn show_merged(readings: &[i32], others: &[i32], fineness: u32) {
     let mut keys = [0i32; 3];
     let mut sums = [0i64; 6];
     let mut index = [0u16; 6];
+    let mut book = [0i32; 12];
     let mut order = [0u16; 3];
-    let head = enter_fresh(fineness, 3, &mut keys, &mut sums, &mut index, readings);
-    show_source_merged(head, &mut keys, &mut sums, &mut index, &mut order, others);
+    let head = enter_fresh(
+        fineness,
+        &mut keys,
+        &mut sums,
+        &mut index,
+        &mut book,
+        readings,
+    );
+    show_source_merged(
+        head,
+        &mut keys,
+        &mut sums,
+        &mut index,
+        &mut book,
+        &mut order,
+        others,
+    );
 }

@@ -1,7 +1,7 @@
-// A reading of document 01's log taken back. Its table is entered as above, and its book has the two
-// readings with the numbers 7 and -3, and room for a third, in which something else stands.
-use crate::print::print_numbers;
+// A reading of document 01's log taken back. Its table is entered as above, with the numbers 7 and -3,
+// and its book has room for a third, in which something else stands.
 use crate::tables::enter_fresh;
+use crate::tables::print_book;
 use crate::tables::print_count;
 use crate::tables::print_table;
 use libc::STDOUT_FILENO;
@@ -14,18 +14,16 @@ fn show_left(
     keys: &mut [i32],
     sums: &mut [i64],
     index: &mut [u16],
+    book: &mut [i32],
     order: &mut [u16],
     number: i32,
 ) {
-    let mut book = [7i32, 3, -3, 10, -3, 2, -2, 4, 9, 9, 9, 9];
-    let left = withdraw(head, 3, keys, sums, index, &mut book, number);
+    let left = withdraw(head, keys, sums, index, book, number);
     io::write_all(STDOUT_FILENO, b"WITHDRAWN");
     print_count(left.number as usize);
     io::write_all(STDOUT_FILENO, b"\n");
-    print_table(left.head, keys, sums, index, order);
-    io::write_all(STDOUT_FILENO, b"BOOK");
-    print_numbers(&book);
-    io::write_all(STDOUT_FILENO, b"\n");
+    print_table(left.head, keys, sums, index, book, order);
+    print_book(book);
 }
 
 pub fn show_withdrawn(number: i32) {
@@ -33,7 +31,18 @@ pub fn show_withdrawn(number: i32) {
     let mut sums = [0i64; 16];
     let mut index = [0u16; 16];
     let mut order = [0u16; 8];
-    let readings = [3i32, -3, 10, 2, -2, 4];
-    let head = enter_fresh(2, 8, &mut keys, &mut sums, &mut index, &readings);
-    show_left(head, &mut keys, &mut sums, &mut index, &mut order, number);
+    let mut book = [0i32; 12];
+    let readings = [7i32, 3, -3, 10, -3, 2, -2, 4];
+    let head = enter_fresh(2, &mut keys, &mut sums, &mut index, &mut book, &readings);
+    book[8] = 9;
+    book[11] = 9;
+    show_left(
+        head,
+        &mut keys,
+        &mut sums,
+        &mut index,
+        &mut book,
+        &mut order,
+        number,
+    );
 }

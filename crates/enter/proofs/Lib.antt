@@ -1,4 +1,6 @@
 pub mod Refusing
 pub mod Taking
+pub mod Noting
+pub mod Answering
 pub mod Calling
 pub mod Going

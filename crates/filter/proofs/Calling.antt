@@ -1,7 +1,7 @@
 -- The call: refused as a whole, or done by the blur and the replies.
 use mathlib.Core.Path.{_≡_, refl, sym, ap, _∙_}
 use mathlib.Core.Bool.{Bool, true, false, _&&_}
-use mathlib.Core.List.{List, [], _∷_}
+use mathlib.Core.List.{List}
 use Prim.Native.Nat.{ℕ, zero, suc, _*_, _%_}
 use lib.Dec.{T, eqb, leb, eqb→eq}
 use lib.IntN.{ℤ}
@@ -13,11 +13,13 @@ use Rattle.whole.proofs.Tests.{and-l, and-r}
 use Rattle.lattice.specs.Limits.{most-d, most-C}
 use Rattle.lattice.specs.Refusals.{first}
 use Rattle.table.specs.Table.{Settings, Table}
-use Rattle.table.specs.Calls.{ranged, fits, callRefusal}
-use Rattle.table.specs.Sound.{sound, Ranged}
+use Rattle.table.specs.Calls.{ranged}
+use Rattle.table.specs.Sound.{Fine, Ranged}
 use Rattle.table.proofs.Soundness.{to-ranged}
-use Rattle.table.proofs.Keeping.{Called, called}
 use Rattle.table.proofs.Refusals.{first-at, T-of}
+use Rattle.book.specs.Book.{Booked}
+use Rattle.book.specs.Calls.{roomRanged, inRange, callTests, callRefusal}
+use Rattle.book.proofs.Booking.{Called, called}
 use Rattle.blur.specs.Blur.{masses, values}
 use Rattle.blur.specs.Sheet.{blurredSheet, withSums}
 use Rattle.blur.specs.Inner.{Sheets, Blurred}
@@ -35,16 +37,16 @@ unfolding lentFitsRanged
 same-in-range c R queries l = rw (le-leb (c .d) most-d (R .d-most), le-leb (c .C) most-C (R .C-most))
 
 -- settings out of range are refused before the lengths are looked at
-same-refusal : (c : Settings) (t : Table) (queries : List ℤ) (l : Lent) → callRefusal c t (lengthsFit c queries l) ≡ filterRefusal c t queries l
+same-refusal : (c : Settings) (b : Booked) (queries : List ℤ) (l : Lent) → callRefusal c b (lengthsFit c queries l) ≡ filterRefusal c b queries l
 unfolding callRefusal
-same-refusal c t queries l = go (ranged c) refl
+same-refusal c b queries l = go (inRange c b) refl
   where
     number : Bool → ℕ
-    number b = first ((ranged c, 1) ∷ (fits c t && b, 2) ∷ (sound c t, 3) ∷ [])
+    number more = first (callTests c b more)
 
-    go : (b : Bool) → ranged c ≡ b → number (lengthsFit c queries l) ≡ number (lentFits (c .d) (c .C) (length (l .first)) (length (l .second)) (length queries) (length (l .values)) (length (l .codes)))
-    go true e = ap number (same-in-range c (to-ranged c (T-of e)) queries l)
-    go false e = first-at (ranged c) 1 _ e ∙ sym (first-at (ranged c) 1 _ e)
+    go : (x : Bool) → inRange c b ≡ x → number (lengthsFit c queries l) ≡ number (lentFits (c .d) (c .C) (length (l .first)) (length (l .second)) (length queries) (length (l .values)) (length (l .codes)))
+    go true e = ap number (same-in-range c (to-ranged c (and-l (ranged c) (roomRanged (b .room)) (T-of e))) queries l)
+    go false e = first-at (inRange c b) 1 _ e ∙ sym (first-at (inRange c b) 1 _ e)
 
 -- what the test of the lengths says
 record Lengths (c : Settings) (queries : List ℤ) (l : Lent) : Type 0 where
@@ -73,21 +75,24 @@ lengths c queries l h =
     }
 
 -- ---- which way the call goes
-filter-done : (c : Settings) (t : Table) (queries : List ℤ) (l : Lent) → filterRefusal c t queries l ≡ 0 → afterFilter c t queries l ≡ filtered c t queries
+filter-done : (c : Settings) (b : Booked) (queries : List ℤ) (l : Lent) → filterRefusal c b queries l ≡ 0 → afterFilter c b queries l ≡ filtered c (b .table) queries
 unfolding afterFilter
-filter-done c t queries l e = rw (e, afterFilter)
+filter-done c b queries l e = rw (e, afterFilter)
 
-filter-refused : (c : Settings) (t : Table) (queries : List ℤ) (l : Lent) (x : ℕ) → filterRefusal c t queries l ≡ x → (x ≡ 0 → ⊥) → afterFilter c t queries l ≡ l
+filter-refused : (c : Settings) (b : Booked) (queries : List ℤ) (l : Lent) (x : ℕ) → filterRefusal c b queries l ≡ x → (x ≡ 0 → ⊥) → afterFilter c b queries l ≡ l
 unfolding afterFilter
-filter-refused c t queries l zero e z = absurd (z refl)
-filter-refused c t queries l (suc x) e z = rw (e, afterFilter)
+filter-refused c b queries l zero e z = absurd (z refl)
+filter-refused c b queries l (suc x) e z = rw (e, afterFilter)
 
-module _ (c : Settings) (t : Table) (queries : List ℤ) (l : Lent) (x : ℕ) (e : x ≡ callRefusal c t (lengthsFit c queries l)) where
+module _ (c : Settings) (b : Booked) (queries : List ℤ) (l : Lent) (x : ℕ) (e : x ≡ callRefusal c b (lengthsFit c queries l)) where
+  abbrev t : Table
+  t = b .table
+
   -- a number is told, and nothing is changed
-  pub call-refused : (x ≡ 0 → ⊥) → Filters c t queries l x (l .first) (l .second) (l .values) (l .codes)
+  pub call-refused : (x ≡ 0 → ⊥) → Filters c b queries l x (l .first) (l .second) (l .values) (l .codes)
   call-refused z =
-      let q = e ∙ same-refusal c t queries l in
-      let s = sym (filter-refused c t queries l x (sym q) z) in
+      let q = e ∙ same-refusal c b queries l in
+      let s = sym (filter-refused c b queries l x (sym q) z) in
       record {
         number-is = q;
         first-is = ap (λ (l : Lent). l .first) s;
@@ -97,27 +102,30 @@ module _ (c : Settings) (t : Table) (queries : List ℤ) (l : Lent) (x : ℕ) (e
       }
 
   module _ (z : x ≡ 0) where
-    open-to : Called c t (lengthsFit c queries l)
-    open-to = called c t (lengthsFit c queries l) (sym e ∙ z)
+    open-to : Called c b (lengthsFit c queries l)
+    open-to = called c b (lengthsFit c queries l) (sym e ∙ z)
+
+    sound : Fine c t
+    sound = open-to .fine .fine
 
     sizes : Lengths c queries l
     sizes = lengths c queries l (open-to .whole)
 
     -- what the blur asks,
     pub call-open : Sheets c t (l .first) (l .second)
-    call-open = record { fine = open-to .fine; first-size = sizes .first-size; second-size = sizes .second-size }
+    call-open = record { fine = sound; first-size = sizes .first-size; second-size = sizes .second-size }
 
     module _ {first second : List ℤ} (B : Blurred c t first second) where
       -- what the replies ask after it,
       pub call-answers : Answerable c (withSums t first) queries (l .values) (l .codes)
-      call-answers = record { smooth = rw (B .first-is) (smooth c t (open-to .fine)); values-size = sizes .values-size; codes-size = sizes .codes-size }
+      call-answers = record { smooth = rw (B .first-is) (smooth c t sound); values-size = sizes .values-size; codes-size = sizes .codes-size }
 
       -- and what both leave
-      pub call-done : {answers : List ℤ} {codes : List ℕ} → RepliesAre c (withSums t first) queries answers codes → Filters c t queries l 0 first second answers codes
+      pub call-done : {answers : List ℤ} {codes : List ℕ} → RepliesAre c (withSums t first) queries answers codes → Filters c b queries l 0 first second answers codes
       unfolding filtered
       call-done R =
-          let q = e ∙ same-refusal c t queries l in
-          let s = sym (filter-done c t queries l (sym q ∙ z)) in
+          let q = e ∙ same-refusal c b queries l in
+          let s = sym (filter-done c b queries l (sym q ∙ z)) in
           let n = queryCount (c .d) (length queries) in
           let u = withSums t (blurredSheet c t) in
           record {
@@ -126,10 +134,10 @@ module _ (c : Settings) (t : Table) (queries : List ℤ) (l : Lent) (x : ℕ) (e
             second-is = B .second-is ∙ ap (λ (l : Lent). l .second) s;
             values-are = R .values-are
                 ∙ ap (λ (l : List ℤ). tab n (λ j. valueBy c (withSums t l) (masses c (withSums t l)) (values c (withSums t l)) (queryAt (c .d) queries j))) (B .first-is)
-                ∙ tab-cong n (λ j. valueBy c u (masses c u) (values c u) (queryAt (c .d) queries j)) (λ j. answer c t (queryAt (c .d) queries j)) (λ j _. value-same c t (open-to .fine) (queryAt (c .d) queries j))
+                ∙ tab-cong n (λ j. valueBy c u (masses c u) (values c u) (queryAt (c .d) queries j)) (λ j. answer c t (queryAt (c .d) queries j)) (λ j _. value-same c t sound (queryAt (c .d) queries j))
                 ∙ ap (λ (l : Lent). l .values) s;
             codes-are = R .codes-are
                 ∙ ap (λ (l : List ℤ). tab n (λ j. codeBy c (withSums t l) (masses c (withSums t l)) (queryAt (c .d) queries j))) (B .first-is)
-                ∙ tab-cong n (λ j. codeBy c u (masses c u) (queryAt (c .d) queries j)) (λ j. code c t (queryAt (c .d) queries j)) (λ j _. code-same c t (open-to .fine) (queryAt (c .d) queries j))
+                ∙ tab-cong n (λ j. codeBy c u (masses c u) (queryAt (c .d) queries j)) (λ j. code c t (queryAt (c .d) queries j)) (λ j _. code-same c t sound (queryAt (c .d) queries j))
                 ∙ ap (λ (l : Lent). l .codes) s;
           }

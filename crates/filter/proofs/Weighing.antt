@@ -28,17 +28,16 @@ use Rattle.index.specs.Keys.{eqZ, same, keyAt, hash, home}
 use Rattle.index.proofs.Equality.{eq-eqb, eqZ-eq, same-eq, eq-same}
 use Rattle.index.proofs.Finding.{finds-exactly}
 use Rattle.index.specs.Search.{walk, search as sought}
-use Rattle.index.specs.Indexed.{count, sparse, finding}
-use Rattle.table.specs.Table.{Settings, Table, key, entry, found, whole, rows, massOf}
-use Rattle.table.specs.Reading.{Reading, share, shares, parsed, refusal}
+use Rattle.table.specs.Table.{Settings, Table, key, entry, found, whole, massOf}
+use Rattle.table.specs.Reading.{Reading, share, shares}
 use Rattle.table.proofs.Lists.{over-map}
 use Rattle.table.proofs.Good.{key-whole}
 use Rattle.table.proofs.Rows.{gives}
 use Rattle.table.proofs.Soundness.{W-most}
 use Rattle.table.proofs.Shares.{share-given}
-use Rattle.table.specs.Sound.{goodKey, goodPair, indexed, sound, Ranged}
-use Rattle.table.specs.Pour.{setPair, append, raise, pour, newsIn}
-use Rattle.table.specs.Calls.{ranged, fits, fresh, enterAll, callRefusal, enter}
+use Rattle.table.specs.Sound.{Ranged}
+use Rattle.table.specs.Pour.{setPair, append, raise, pour}
+use Rattle.table.specs.Calls.{fresh}
 use Rattle.blur.specs.Blur.{isStored, step, plusStep, minusStep, pass, passes, massAfter, valueAfter}
 use Rattle.blur.proofs.Stored.{own-stored}
 use Rattle.filter.specs.Answer.{weightOf, weighted, meets, codeBy, valueBy}
@@ -47,7 +46,7 @@ use Rattle.filter.specs.Worked.{AnswerCases}
 
 -- ---- the worked log
 pub answer-cases : AnswerCases
-unfolding floor remainder rounded sum over all tab collect word first allNear sumsToZero best spread weight corner lastOf points same keyAt hash home walk sought count sparse finding rows whole goodKey goodPair indexed sound setPair append raise pour newsIn parsed shares refusal ranged fits fresh enterAll callRefusal enter step plusStep minusStep pass passes massAfter valueAfter weighted meets codeBy valueBy
+unfolding floor remainder rounded sum over all tab collect word first allNear sumsToZero best spread weight corner lastOf points same keyAt hash home walk sought whole setPair append raise pour shares fresh step plusStep minusStep pass passes massAfter valueAfter weighted meets codeBy valueBy
 answer-cases = record { value-sum = refl; mass-sum = refl; answer-between = refl; answer-near = refl; code-near = refl; answer-far = refl; code-far = refl }
 
 -- a sum over the weighed points, by the points

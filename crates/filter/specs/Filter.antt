@@ -10,8 +10,9 @@ use lib.ListN.{length}
 use denote.Ref.{now}
 use Rattle.whole.specs.Lists.{at, tab}
 use Rattle.table.specs.Table.{Settings, Table}
-use Rattle.table.specs.Calls.{callRefusal}
 use Rattle.table.specs.Heads.{Slice}
+use Rattle.book.specs.Book.{Booked}
+use Rattle.book.specs.Calls.{callRefusal}
 use Rattle.blur.specs.Sheet.{blurredSheet, clearSheet}
 use Rattle.filter.specs.Answer.{code, answer}
 
@@ -36,9 +37,9 @@ unfoldable pub lentFits : ℕ → ℕ → ℕ → ℕ → ℕ → ℕ → ℕ �
 lentFits d C first second queries values codes =
     eqb first (2 * C) && eqb second (2 * C) && eqb (queries % suc d) 0 && (eqb values (queryCount d queries) && eqb codes (queryCount d queries))
 
--- "1, 2, 3 for the call"
-abbrev pub filterRefusal : Settings → Table → List ℤ → Lent → ℕ
-filterRefusal c t queries l = callRefusal c t (lentFits (c .d) (c .C) (length (l .first)) (length (l .second)) (length queries) (length (l .values)) (length (l .codes)))
+-- "1, 2, 3 for the call", of a table with its book
+abbrev pub filterRefusal : Settings → Booked → List ℤ → Lent → ℕ
+filterRefusal c b queries l = callRefusal c b (lentFits (c .d) (c .C) (length (l .first)) (length (l .second)) (length queries) (length (l .values)) (length (l .codes)))
 
 -- what is left where the call is done: each query's value and code, and "Afterwards the first 2·m numbers of the first sheet hold the blurred pairs
 -- in stored order; every other number of both sheets is 0."
@@ -51,19 +52,19 @@ filtered c t queries = record {
 }
 
 -- "A call refused as a whole … changes no lent memory."
-unfoldable pub afterFilter : Settings → Table → List ℤ → Lent → Lent
-afterFilter c t queries l = elim (filterRefusal c t queries l) [ zero ↦ filtered c t queries | suc x ↦ l ]
+unfoldable pub afterFilter : Settings → Booked → List ℤ → Lent → Lent
+afterFilter c b queries l = elim (filterRefusal c b queries l) [ zero ↦ filtered c (b .table) queries | suc x ↦ l ]
 
 -- The call's number, and the memory that it leaves.
-pub record Filters (c : Settings) (t : Table) (queries : List ℤ) (l : Lent) (number : ℕ) (first second values : List ℤ) (codes : List ℕ) : Type 0 where
-  pub number-is : number ≡ filterRefusal c t queries l
-  pub first-is : first ≡ afterFilter c t queries l .first
-  pub second-is : second ≡ afterFilter c t queries l .second
-  pub values-are : values ≡ afterFilter c t queries l .values
-  pub codes-are : codes ≡ afterFilter c t queries l .codes
+pub record Filters (c : Settings) (b : Booked) (queries : List ℤ) (l : Lent) (number : ℕ) (first second values : List ℤ) (codes : List ℕ) : Type 0 where
+  pub number-is : number ≡ filterRefusal c b queries l
+  pub first-is : first ≡ afterFilter c b queries l .first
+  pub second-is : second ≡ afterFilter c b queries l .second
+  pub values-are : values ≡ afterFilter c b queries l .values
+  pub codes-are : codes ≡ afterFilter c b queries l .codes
 
 -- `Filters` of the sheets and lists that are lent, before and after the call
-abbrev pub FiltersIn : Settings → Table → List ℤ → ℕ → Slice ℤ → Slice ℤ → Slice ℤ → Slice ℕ → Type 0
-FiltersIn c t queries number first second values codes =
+abbrev pub FiltersIn : Settings → Booked → List ℤ → ℕ → Slice ℤ → Slice ℤ → Slice ℤ → Slice ℕ → Type 0
+FiltersIn c b queries number first second values codes =
     let l : Lent = record { first = now (first .entry); second = now (second .entry); values = now (values .entry); codes = now (codes .entry) } in
-    Filters c t queries l number (now (first .exit)) (now (second .exit)) (now (values .exit)) (now (codes .exit))
+    Filters c b queries l number (now (first .exit)) (now (second .exit)) (now (values .exit)) (now (codes .exit))

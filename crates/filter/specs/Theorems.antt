@@ -12,9 +12,10 @@ use Rattle.whole.specs.Lists.{All}
 use Rattle.lattice.specs.Refusals.{coordinate-beyond, sum-not-zero, no-point-met, no-mass-met}
 use Rattle.lattice.specs.Position.{Position, judged}
 use Rattle.table.specs.Table.{Settings, Table, held}
-use Rattle.table.specs.Reading.{parsed}
-use Rattle.table.specs.Calls.{ranged, fresh, enter, afterMerge}
+use Rattle.table.specs.Calls.{ranged, fresh}
 use Rattle.table.specs.Sound.{Fine}
+use Rattle.book.specs.Book.{Booked}
+use Rattle.book.specs.Calls.{parsed, enter, afterMerge}
 use Rattle.blur.specs.Blur.{masses, values, blurredMass, blurredValue}
 use Rattle.blur.specs.Theorems.{Between}
 use Rattle.filter.specs.Answer.{weightOf, weighted, code, answer}
@@ -44,12 +45,13 @@ FreshBetween = (lo hi : ℤ) (c : Settings) → T (ranged c) → ValuesBetween l
 
 -- a call of enter that took only readings with values between lo and hi keeps each value sum between lo and hi times its mass
 abbrev pub EnterBetween : Type 0
-EnterBetween = (lo hi : ℤ) (c : Settings) (t : Table) (l : List ℤ) → ValuesBetween lo hi c t
-    → All (λ r. Within lo hi (r .value)) (take ((enter c t l) .taken) (parsed (c .d) l)) → ValuesBetween lo hi c ((enter c t l) .table)
+EnterBetween = (lo hi : ℤ) (c : Settings) (b : Booked) (l : List ℤ) → ValuesBetween lo hi c (b .table)
+    → All (λ e. Within lo hi (e .reading .value)) (take (enter c b l .taken) (parsed (c .d) l)) → ValuesBetween lo hi c (enter c b l .booked .table)
 
 -- a merge of two tables with each value sum between lo and hi times its mass leaves such a table
 abbrev pub MergeBetween : Type 0
-MergeBetween = (lo hi : ℤ) (c : Settings) (t : Table) (b : Settings) (s : Table) → ValuesBetween lo hi c t → ValuesBetween lo hi b s → ValuesBetween lo hi c (afterMerge c t b s)
+MergeBetween = (lo hi : ℤ) (c : Settings) (b : Booked) (e : Settings) (s : Booked) → ValuesBetween lo hi c (b .table) → ValuesBetween lo hi e (s .table)
+    → ValuesBetween lo hi c (afterMerge c b e s .table)
 
 -- where each value sum lies between lo and hi times its mass, an answer given lies between lo and hi
 abbrev pub AnswerBetween : Type 0

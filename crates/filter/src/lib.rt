@@ -2,7 +2,8 @@
 // answers are stands in specs/; that they lie between the values entered and depend on the table's
 // map alone, in proofs/.
 ghost use mathlib.Core.Path.{_≡_};
-ghost use Rattle.table.specs.Heads.{settings, tableIn};
+ghost use Rattle.table.specs.Heads.{settings};
+ghost use Rattle.book.specs.Heads.{bookedIn};
 ghost use Rattle.filter.specs.Filter.{FiltersIn};
 ghost use Rattle.filter.specs.Inner.{lentFitsRanged};
 
@@ -11,9 +12,9 @@ mod weigh;
 
 use crate::reply::reply_all;
 use blur::blur;
+use carried::refusal_of;
 use lattice::limits::MOST_CAPACITY;
 use lattice::limits::MOST_D;
-use soundness::refusal_of;
 use table::Head;
 
 // Whether two sheets of 2·C numbers are lent, whole queries of d + 1 numbers, and a value and a code
@@ -54,13 +55,14 @@ fn lent_fits(
 
 // Filter: 1, 2 or 3 for the call, which then changes nothing; else each query's value and code, where
 // a query is refused with 4, 5, 10 or 11 and the value 0. Afterwards the first 2·m numbers of the first
-// sheet hold the blurred pairs in stored order, and every other number of both sheets is 0. The table
-// is only read.
+// sheet hold the blurred pairs in stored order, and every other number of both sheets is 0. Table and
+// book are only read.
 pub fn filter(
     head: Head,
     keys: &[i32],
     sums: &[i64],
     index: &[u16],
+    book: &[i32],
     first: &mut [i64],
     second: &mut [i64],
     queries: &[i32],
@@ -68,8 +70,8 @@ pub fn filter(
     codes: &mut [u8],
 ) -> u8
     ensures { λ r. ⌜
-        (let t = tableIn head keys sums index in
-        FiltersIn (settings head) t (now (queries .entry)) r first second values codes)
+        (let b = bookedIn head keys sums index book in
+        FiltersIn (settings head) b (now (queries .entry)) r first second values codes)
         ⌝ }
 {
     let more = lent_fits(
@@ -81,7 +83,7 @@ pub fn filter(
         values.len(),
         codes.len(),
     );
-    let number = refusal_of(head, keys, sums, index, more);
+    let number = refusal_of(head, keys, sums, index, book, more);
     if number != 0 {
         return number;
     }

@@ -14,6 +14,7 @@ first ((true, k) ∷ rest) = first rest
 first ((false, k) ∷ rest) = k
 
 -- "1: d, S or C out of range"
+-- and so is a book whose room is not "room B, 1 to 4,096 (1 otherwise"
 abbrev pub settings-out-of-range : ℕ
 settings-out-of-range = 1
 
@@ -38,6 +39,7 @@ abbrev pub value-beyond : ℕ
 value-beyond = 6
 
 -- "7: more than 4,096 readings would be held"
+-- or more than the book has room for: "7 now comes above B"
 abbrev pub too-many-readings : ℕ
 too-many-readings = 7
 
@@ -76,3 +78,11 @@ body-cut = 15
 -- "16: program: log over 16,384 bytes, or C over 512"
 abbrev pub program-limit : ℕ
 program-limit = 16
+
+-- "19 number not held (withdraw, after 3)"
+abbrev pub number-not-held : ℕ
+number-not-held = 19
+
+-- "20 number held already (enter and loading, after 6; merge, after 9; never the writer)"
+abbrev pub number-held : ℕ
+number-held = 20

@@ -1,6 +1,6 @@
-// Document 01's refusal numbers, each once.
+// The refusal numbers of documents 01 and 02, each once.
 
-// d, S or C out of range.
+// d, S, C or the room B of the book out of range.
 pub const SETTINGS_OUT_OF_RANGE: u8 = 1;
 
 // A lent slice has another length than the settings give, or a list isn't whole items.
@@ -18,7 +18,7 @@ pub const SUM_NOT_ZERO: u8 = 5;
 // A value is beyond 1,000,000 either way.
 pub const VALUE_BEYOND: u8 = 6;
 
-// More than 4,096 readings would be held.
+// More readings would be held than the book has room for.
 pub const TOO_MANY_READINGS: u8 = 7;
 
 // More than C points would be stored.
@@ -47,3 +47,9 @@ pub const BODY_CUT: u8 = 15;
 
 // Program: log over 16,384 bytes, or C over 512.
 pub const PROGRAM_LIMIT: u8 = 16;
+
+// Withdraw: no reading of the table has the number.
+pub const NUMBER_NOT_HELD: u8 = 19;
+
+// A reading of the table has the number already.
+pub const NUMBER_HELD: u8 = 20;

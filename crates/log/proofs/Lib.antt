@@ -1,7 +1,9 @@
 pub mod Worked
+pub mod Among
 pub mod Leaving
-pub mod Taking
-pub mod Starting
 pub mod WholeLogs
 pub mod Cuts
 pub mod Theorems
+pub mod Known
+pub mod Taking
+pub mod Starting

@@ -1,94 +1,131 @@
--- A merge: from its refusals to what counting and pouring ask, and to what is answered.
+-- A merge: from its refusals to what weighing, pouring and putting ask, and to what is answered.
 use mathlib.Core.Path.{_≡_, refl, sym, ap, subst, _∙_}
 use mathlib.Core.List.{List}
-use Prim.Native.Nat.{ℕ, zero, suc, _+_, _≤_}
-use native.Mathlib.Nat.{le-refl, mul-le-mul}
+use Prim.Native.Nat.{ℕ, zero, suc, _+_, _*_, _-_}
+use native.Mathlib.Nat.{le-refl, mul-le-mul, mul-le-mul-left}
 use native.Mathlib.Omega.{arith}
 use lib.IntN.{ℤ}
-use Rattle.lattice.specs.Limits.{most-readings}
+use lib.ListN.{take, drop}
+use Rattle.whole.specs.Lists.{splice}
 use Rattle.table.specs.declared.Head.{Head}
 use Rattle.table.specs.Table.{Settings, Table, rows}
 use Rattle.table.specs.Pour.{pour}
-use Rattle.table.specs.Heads.{settings, table, withCounts, Holds, Answers}
-use Rattle.table.specs.Calls.{mergeRefusal, afterMerge}
+use Rattle.table.specs.Heads.{settings, withCounts}
 use Rattle.table.specs.Sound.{Fine}
 use Rattle.table.specs.Inner.{InTurn}
 use Rattle.table.proofs.Turns.{in-turn, pour-n}
-use Rattle.table.proofs.Keeping.{mergeable, source-acceptable, acceptable-pours}
-use Rattle.table.proofs.Calls.{merge-done, merge-refused}
+use Rattle.table.proofs.Keeping.{source-acceptable, acceptable-pours}
 use Rattle.table.proofs.Soundness.{fine-searched}
-use Rattle.merge.specs.Source.{firstRows, Stretches, Comparable, RowsToPour}
+use Rattle.book.specs.Book.{Booked}
+use Rattle.book.specs.Calls.{mergeRefusal, afterMerge}
+use Rattle.book.specs.Heads.{booked, HoldsBook, AnswersBook}
+use Rattle.book.proofs.Answering.{merge-done, merge-refused}
+use Rattle.book.proofs.Booking.{merges}
+use Rattle.book.proofs.Fine.{book-long, numbers-apart}
+use Rattle.merge.specs.Source.{firstRows, Stretches, Comparable, RowsToPour, EntriesToPut}
 use Rattle.merge.proofs.Rows.{rows-all}
 use Rattle.merge.proofs.Refusing.{BothFine}
 
 -- ---- what is asked
-pub stretches-of : (d : ℕ) (b : Settings) (s : Table) → Fine b s → d ≡ b .d → Stretches d (s .keys) (s .m)
-stretches-of d b s F e = subst (λ (d : ℕ). Stretches d (s .keys) (s .m)) (sym e) record {
+stretches-of : (d : ℕ) (e : Settings) (s : Table) → Fine e s → d ≡ e .d → Stretches d (s .keys) (s .m)
+stretches-of d e s F q = subst (λ (d : ℕ). Stretches d (s .keys) (s .m)) (sym q) record {
   d-most = F .ranged .d-most;
   few = omega (arith, F .ranged .C-most, F .sound .indexed .sparse .room);
-  inside = omega (arith, F .shape .keys, mul-le-mul (le-refl (b .d)) (F .sound .indexed .sparse .room));
+  inside = omega (arith, F .shape .keys, mul-le-mul (le-refl (e .d)) (F .sound .indexed .sparse .room));
 }
 
-pub comparable : (h : Head) (keys sums : List ℤ) (index : List ℕ) (s : Head) (keys′ sums′ : List ℤ) (index′ : List ℕ)
-    → BothFine (settings h) (table h keys sums index) (settings s) (table s keys′ sums′ index′) → Comparable h keys index s keys′
-comparable h keys sums index s keys′ sums′ index′ F = record {
-  searchable = fine-searched (settings h) (table h keys sums index) (F .target);
-  points-few = omega (arith, F .target .sound .indexed .sparse .room, F .target .ranged .C-most);
-  stretches = stretches-of (s .d) (settings s) (table s keys′ sums′ index′) (F .source) refl;
-  few = F .target .sound .few;
-  source-few = F .source .sound .few;
-}
-
-pub pouring : (c : Settings) (t : Table) (b : Settings) (s : Table) → mergeRefusal c t b s ≡ 0 → RowsToPour c t (s .keys) (s .sums) (s .m)
-pouring c t b s e =
-    let M = mergeable c t b s e in
+pub comparable : (h : Head) (keys sums : List ℤ) (index : List ℕ) (book : List ℤ) (s : Head) (keys′ sums′ : List ℤ) (index′ : List ℕ) (book′ : List ℤ)
+    → BothFine (settings h) (booked h keys sums index book) (settings s) (booked s keys′ sums′ index′ book′) → Comparable h keys index book s keys′ book′
+comparable h keys sums index book s keys′ sums′ index′ book′ F =
+    let b = booked h keys sums index book in
+    let o = booked s keys′ sums′ index′ book′ in
+    let G = F .target .fine in
     record {
-      stretches = stretches-of (c .d) b s (M .source) (M .same-d);
-      pairs = omega (arith, M .source .shape .sums, M .source .sound .indexed .sparse .room);
-      in-turn = subst (InTurn c t) (rows-all (c .d) b s (M .same-d)) (in-turn c t (rows b s) (acceptable-pours c t (rows b s) (s .n) (source-acceptable c t b s M)));
+      searchable = fine-searched (settings h) (b .table) G;
+      points-few = omega (arith, G .sound .indexed .sparse .room, G .ranged .C-most);
+      stretches = stretches-of (s .d) (settings s) (o .table) (F .source .fine) refl;
+      few = G .sound .few;
+      source-few = F .source .fine .sound .few;
+      entries-in = book-long (settings h) b (F .target);
+      source-entries-in = book-long (settings s) o (F .source);
+      apart = numbers-apart (settings h) b (F .target);
     }
 
-pub readings-few : (c : Settings) (t : Table) (b : Settings) (s : Table) → mergeRefusal c t b s ≡ 0 → t .n + s .n ≤ most-readings
-readings-few c t b s e = mergeable c t b s e .few
+module _ (c : Settings) (b : Booked) (e : Settings) (s : Booked) (z : mergeRefusal c b e s ≡ 0) where
+  pub pouring : RowsToPour c (b .table) (s .table .keys) (s .table .sums) (s .table .m)
+  pouring =
+      let M = merges c b e s z .mergeable in
+      let t = b .table in
+      let u = s .table in
+      record {
+        stretches = stretches-of (c .d) e u (M .source) (M .same-d);
+        pairs = omega (arith, M .source .shape .sums, M .source .sound .indexed .sparse .room);
+        in-turn = subst (InTurn c t) (rows-all (c .d) e u (M .same-d)) (in-turn c t (rows e u) (acceptable-pours c t (rows e u) (u .n) (source-acceptable c t e u M)));
+      }
+
+  pub putting : EntriesToPut (c .d) (b .table .n) (b .book) (s .table .n) (s .book)
+  putting =
+      let M = merges c b e s z in
+      record {
+        d-most = M .target .fine .ranged .d-most;
+        few = M .mergeable .few;
+        inside = omega (arith, M .target .lengths, mul-le-mul-left (c .d + 3) (M .room));
+        source-inside = rw (M .mergeable .same-d) (book-long e s (M .source));
+      }
+
+-- ---- entries as the code lends them
+pub put : (l : List ℤ) (a k : ℕ) (v : List ℤ) {m : List ℤ} → m ≡ splice l a (take (k - 0) (drop 0 v)) → m ≡ splice l a (take k v)
+put l a k v e = let q : k - 0 ≡ k = omega arith in e ∙ ap (λ (k : ℕ). splice l a (take k v)) q
 
 -- ---- what is answered
-module _ (h : Head) (keys sums : List ℤ) (index : List ℕ) (b : Settings) (s : Table) where
+module _ (h : Head) (keys sums : List ℤ) (index : List ℕ) (book : List ℤ) (e : Settings) (s : Booked) where
   abbrev c : Settings
   c = settings h
 
-  abbrev t : Table
-  t = table h keys sums index
+  abbrev b : Booked
+  b = booked h keys sums index book
 
-  abbrev Merges : ℕ → Head → List ℤ → List ℤ → List ℕ → Type 0
-  Merges = Answers h (mergeRefusal c t b s) (afterMerge c t b s)
+  abbrev Merged : ℕ → Head → List ℤ → List ℤ → List ℕ → List ℤ → Type 0
+  Merged = AnswersBook h (mergeRefusal c b e s) (afterMerge c b e s)
 
-  as-given : (x : ℕ) → x ≡ mergeRefusal c t b s → (x ≡ 0 → ⊥) → afterMerge c t b s ≡ t
-  as-given zero e n = absurd (n refl)
-  as-given (suc x) e n = merge-refused c t b s x (sym e)
+  as-given : (x : ℕ) → x ≡ mergeRefusal c b e s → (x ≡ 0 → ⊥) → afterMerge c b e s ≡ b
+  as-given zero p n = absurd (n refl)
+  as-given (suc x) p n = merge-refused c b e s x (sym p)
 
-  pub refused : (x : ℕ) → x ≡ mergeRefusal c t b s → (x ≡ 0 → ⊥) → Merges x h keys sums index
-  refused x e n = let a = sym (as-given x e n) in record {
-    number-is = e;
-    head-is = ap (λ (u : Table). withCounts h (u .n) (u .m)) a;
-    keys-are = ap (λ (u : Table). u .keys) a;
-    sums-are = ap (λ (u : Table). u .sums) a;
-    index-are = ap (λ (u : Table). u .index) a;
+  pub refused : (x : ℕ) → x ≡ mergeRefusal c b e s → (x ≡ 0 → ⊥) → Merged x h keys sums index book
+  refused x p n = let a = sym (as-given x p n) in record {
+    answers = record {
+      number-is = p;
+      head-is = ap (λ (u : Booked). withCounts h (u .table .n) (u .table .m)) a;
+      keys-are = ap (λ (u : Booked). u .table .keys) a;
+      sums-are = ap (λ (u : Booked). u .table .sums) a;
+      index-are = ap (λ (u : Booked). u .table .index) a;
+    };
+    book-is = ap (λ (u : Booked). u .book) a;
   }
 
-  pub done : (h′ : Head) (points : ℕ) (keys′ sums′ : List ℤ) (index′ : List ℕ) → 0 ≡ mergeRefusal c t b s
-      → Holds (pour c t (firstRows (h .d) (s .keys) (s .sums) (s .m))) points keys′ sums′ index′
-      → h′ ≡ withCounts h (h .readings + s .n) points
-      → Merges 0 h′ keys′ sums′ index′
-  done h′ points keys′ sums′ index′ e H q =
-      let M = mergeable c t b s (sym e) in
-      let r = ap (pour c t) (sym (rows-all (h .d) b s (M .same-d))) in
-      let a = sym (merge-done c t b s (sym e)) in
-      let n : h .readings + s .n ≡ pour c t (rows b s) .n + s .n = ap (λ (n : ℕ). n + s .n) (sym (pour-n c t (rows b s))) in
-      let m : points ≡ pour c t (rows b s) .m = H .points-are ∙ ap (λ (u : Table). u .m) r in
+  pub done : (h′ : Head) (points : ℕ) (keys′ sums′ : List ℤ) (index′ : List ℕ) (book′ : List ℤ) → 0 ≡ mergeRefusal c b e s
+      → HoldsBook (record {
+        table = pour c (b .table) (firstRows (h .d) (s .table .keys) (s .table .sums) (s .table .m));
+        room = h .room;
+        book = splice book ((h .d + 3) * h .readings) (take ((h .d + 3) * s .table .n) (s .book));
+      }) points keys′ sums′ index′ book′
+      → h′ ≡ withCounts h (h .readings + s .table .n) points
+      → Merged 0 h′ keys′ sums′ index′ book′
+  done h′ points keys′ sums′ index′ book′ z H q =
+      let t = b .table in
+      let M = merges c b e s (sym z) .mergeable in
+      let r = ap (pour c t) (sym (rows-all (h .d) e (s .table) (M .same-d))) in
+      let a = sym (merge-done c b e s (sym z)) in
+      let n : h .readings + s .table .n ≡ pour c t (rows e (s .table)) .n + s .table .n = ap (λ (n : ℕ). n + s .table .n) (sym (pour-n c t (rows e (s .table)))) in
+      let m : points ≡ pour c t (rows e (s .table)) .m = H .holds .points-are ∙ ap (λ (u : Table). u .m) r in
       record {
-        number-is = e;
-        head-is = q ∙ (λ i. withCounts h (n i) (m i)) ∙ ap (λ (u : Table). withCounts h (u .n) (u .m)) a;
-        keys-are = H .keys-are ∙ ap (λ (u : Table). u .keys) r ∙ ap (λ (u : Table). u .keys) a;
-        sums-are = H .sums-are ∙ ap (λ (u : Table). u .sums) r ∙ ap (λ (u : Table). u .sums) a;
-        index-are = H .index-are ∙ ap (λ (u : Table). u .index) r ∙ ap (λ (u : Table). u .index) a;
+        answers = record {
+          number-is = z;
+          head-is = q ∙ (λ i. withCounts h (n i) (m i)) ∙ ap (λ (u : Booked). withCounts h (u .table .n) (u .table .m)) a;
+          keys-are = H .holds .keys-are ∙ ap (λ (u : Table). u .keys) r ∙ ap (λ (u : Booked). u .table .keys) a;
+          sums-are = H .holds .sums-are ∙ ap (λ (u : Table). u .sums) r ∙ ap (λ (u : Booked). u .table .sums) a;
+          index-are = H .holds .index-are ∙ ap (λ (u : Table). u .index) r ∙ ap (λ (u : Booked). u .table .index) a;
+        };
+        book-is = H .book-is ∙ ap (λ (u : Booked). u .book) a;
       }

@@ -25,7 +25,7 @@ use Rattle.numbers.specs.Indexing.{number-room, placeFor, NumberIndex, A
 use Rattle.numbers.proofs.Numbering.{key-one}
 
 -- ---- what depends on some of the numbers alone
-among-same : (n : ℕ) (f g : ℕ → ℤ) (k : ℤ) → ((i : ℕ) → i < n → f i ≡ g i) → among n f k ≡ among n g k
+pub among-same : (n : ℕ) (f g : ℕ → ℤ) (k : ℤ) → ((i : ℕ) → i < n → f i ≡ g i) → among n f k ≡ among n g k
 unfolding among
 among-same zero f g k h = refl
 among-same (suc n) f g k h = ap₂ (λ (z : ℤ) (b : Bool). cond (eqZ z k) true b) (h n (omega arith)) (among-same n f g k (λ i l. h i (omega arith)))

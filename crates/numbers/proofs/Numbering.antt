@@ -29,15 +29,16 @@ key-one l i = let e : 1 * i + 0 ≡ i = omega arith in ap (λ (p : ℕ). at l p 
 one-number : (a b : ℤ) → _≡_ {A = List ℤ} (a ∷ []) (b ∷ []) → a ≡ b
 one-number a b e = ap (λ (l : List ℤ). at l 0) e
 
+-- the search ends inside the index
+pub place-low : (numbers : List ℤ) (places : List ℕ) (k : ℤ) → placeFor numbers places k < 2 * number-room
+place-low numbers places k = search-lt number-room (keyAt 1 numbers) (entryAt places) (omega arith) (k ∷ [])
+
 module _ (n : ℕ) (numbers : List ℤ) (places : List ℕ) (X : NumberIndex n numbers places) where
   pub can-search : Searchable 1 number-room numbers places
   can-search = searchable 1 number-room n numbers places (omega arith) (omega arith) (X .places-size) (X .numbers-size) (X .indexed .sparse)
 
-  place-low : (k : ℤ) → placeFor numbers places k < 2 * number-room
-  place-low k = search-lt number-room (keyAt 1 numbers) (entryAt places) (omega arith) (k ∷ [])
-
   -- the place names one that is among them
-  is-among : (k : ℤ) → (entryAt places (placeFor numbers places k) ≡ 0 → ⊥) → among n (at numbers) k ≡ true
+  pub is-among : (k : ℤ) → (entryAt places (placeFor numbers places k) ≡ 0 → ⊥) → among n (at numbers) k ≡ true
   is-among k z = go (entryAt places (placeFor numbers places k)) refl
     where
       go : (e : ℕ) → entryAt places (placeFor numbers places k) ≡ e → among n (at numbers) k ≡ true
@@ -48,7 +49,7 @@ module _ (n : ℕ) (numbers : List ℤ) (places : List ℕ) (X : NumberIndex n n
           T-true (among n (at numbers) k) (at-among n (at numbers) k i l (one-number (at numbers i) k (sym (key-one numbers i) ∙ q)))
 
   -- or it is empty, and the number is another
-  is-new : (k : ℤ) → entryAt places (placeFor numbers places k) ≡ 0 → among n (at numbers) k ≡ false
+  pub is-new : (k : ℤ) → entryAt places (placeFor numbers places k) ≡ 0 → among n (at numbers) k ≡ false
   is-new k z = T-false (among n (at numbers) k) (λ t.
       let (i, l, q) = among-at n (at numbers) k t in
       let e = key-found number-room n (keyAt 1 numbers) (entryAt places) (omega arith) (X .indexed) (k ∷ []) i l (key-one numbers i ∙ ap (λ (z : ℤ). z ∷ []) q) in
@@ -64,14 +65,14 @@ module _ (n : ℕ) (numbers : List ℤ) (places : List ℕ) (X : NumberIndex n n
         (keyAt 1 (set numbers n k)) (entryAt (set places (placeFor numbers places k) (suc n))) z (omega arith)
         (λ i l. key-one (set numbers n k) i ∙ ap (λ (z : ℤ). z ∷ []) (getD-set-other numbers n i k (pos 0) (omega arith)) ∙ sym (key-one numbers i))
         (key-one (set numbers n k) n ∙ ap (λ (z : ℤ). z ∷ []) (getD-set-same numbers n k (pos 0) (omega (arith, X .numbers-size))))
-        (getD-set-same places (placeFor numbers places k) (suc n) 0 (omega (arith, X .places-size, place-low k)))
+        (getD-set-same places (placeFor numbers places k) (suc n) 0 (omega (arith, X .places-size, place-low numbers places k)))
         (λ q w. getD-set-other places (placeFor numbers places k) q (suc n) 0 w));
   }
 
   -- ---- what the code answers, with the place that the search gave
   module _ (k : ℤ) {p : ℕ} (e : p ≡ placeFor numbers places k) where
     pub place-in : p < 2 * number-room
-    place-in = rw e (place-low k)
+    place-in = rw e (place-low numbers places k)
 
     pub added : {x : ℤ} → n < most-readings → entryAt places p ≡ 0 → x ≡ k → Adds n numbers places k true (set numbers n x) (set places p (n + 1))
     added {x} h z q =

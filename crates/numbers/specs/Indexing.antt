@@ -3,13 +3,14 @@ use mathlib.Core.Path.{_≡_}
 use mathlib.Core.Bool.{Bool, true, not, cond}
 use mathlib.Core.List.{List, [], _∷_}
 use Prim.Native.Nat.{ℕ, zero, suc, _+_, _*_, _≤_, _<_}
-use lib.IntN.{ℤ}
+use lib.Dec.{T}
+use lib.IntN.{ℤ, pos}
 use lib.ListN.{length, set}
 use Rattle.whole.specs.Lists.{at, tab, splice}
 use Rattle.lattice.specs.Limits.{most-readings}
 use Rattle.index.specs.Keys.{keyAt}
 use Rattle.index.specs.Search.{entryAt, search}
-use Rattle.index.specs.Indexed.{Indexed}
+use Rattle.index.specs.Indexed.{used, Indexed}
 use Rattle.book.specs.Book.{among, numbersApart}
 use Rattle.book.specs.Withdraw.{afresh}
 
@@ -20,6 +21,10 @@ number-room = 4099
 -- the place at which the search for a number ends
 abbrev pub placeFor : List ℤ → List ℕ → ℤ → ℕ
 placeFor numbers places k = search number-room (keyAt 1 numbers) (entryAt places) (k ∷ [])
+
+-- whether that place names an entry: the number is held
+abbrev pub isNamed : List ℤ → List ℕ → ℤ → Bool
+isNamed numbers places k = used (entryAt places) (placeFor numbers places k)
 
 -- the first n numbers of a list are found by the index
 pub record NumberIndex (n : ℕ) (numbers : List ℤ) (places : List ℕ) : Type 0 where
@@ -47,3 +52,7 @@ pub record IndexesBook (n : ℕ) (f : ℕ → ℤ) (numbers : List ℤ) (ok : Bo
   pub places-are : places′ ≡ afresh number-room (λ j. f j ∷ []) (apartTo n f)
   pub index-is : ok ≡ true → NumberIndex n numbers′ places′
   pub copied : ok ≡ true → (j : ℕ) → j < n → at numbers′ j ≡ f j
+
+-- each of the numbers from 0 up, below the one given, is among n
+abbrev pub HeldBelow : ℕ → ℕ → (ℕ → ℤ) → Type 0
+HeldBelow from n f = (k : ℕ) → k < from → T (among n f (pos k))

@@ -1,40 +1,34 @@
--- Whether readings are all taken: exactly where they fit together with those that the table was made of. A table that is made of them shows the listing that they ask for; and
--- where they have one of at most C points, the points stored and the points that are new are different points of it.
-use mathlib.Core.Path.{_≡_, refl, sym, ap, _∙_, subst}
-use mathlib.Core.List.{List, [], _∷_, _++_, append-assoc, List·Permᴰ}
-use Prim.Native.Nat.{ℕ, zero, suc, _+_, _≤_, _<_}
+-- Whether there is room for the points of readings: exactly where they have a listing of at most C points together with those that the table was made of. A table that is made of them shows
+-- such a listing; and where they have one, the points stored and the points that are new are different points of it.
+use mathlib.Core.Path.{_≡_, refl, subst}
+use mathlib.Core.List.{List, [], _∷_, _++_, List·Permᴰ}
+use Prim.Native.Nat.{ℕ, _+_, _≤_, _<_}
 use native.Mathlib.Omega.{arith}
 use lib.IntN.{ℤ, pos, _+ℤ_}
 use lib.ListN.{length, getD, take, length-map, length-append}
-use lib.Seq.{take-all}
 use lib.Signed.{_≤ℤ_}
 use Rattle.whole.specs.Sum.{over}
 use Rattle.whole.specs.Lists.{at, All, Each}
 use Rattle.whole.proofs.Linear.{on, difs, ints}
 use Rattle.whole.proofs.Parts.{le-out}
 use Rattle.whole.proofs.Sum.{over-append}
-use Rattle.whole.proofs.Size.{of-abs}
-use Rattle.lattice.specs.Limits.{most-value, most-readings}
+use Rattle.lattice.specs.Limits.{most-readings}
 use Rattle.lattice.specs.Lattice.{Point}
 use Rattle.lattice.specs.Weight.{weight}
 use Rattle.lattice.specs.Points.{Points, points}
 use Rattle.lattice.proofs.Points.{exactly-these}
 use Rattle.table.specs.Table.{Settings, Table, Row, keysOf, key, row, rows, whole}
-use Rattle.table.specs.Reading.{Reading, share, shares, Lawful, refusal, entered, massFrom}
+use Rattle.table.specs.Reading.{Reading, share, shares, Lawful, massFrom}
 use Rattle.table.specs.Pour.{news}
-use Rattle.table.specs.Calls.{Outcome, enterAll, mergeRefusal, afterMerge}
 use Rattle.table.proofs.Lists.{all-tab, all-list, all-map, all-before, all-after}
 use Rattle.table.proofs.Rows.{Apart}
 use Rattle.table.proofs.Shares.{shares-apart}
 use Rattle.table.proofs.Keeping.{rows-apart}
-use Rattle.table.proofs.Entering.{enter-yes, enter-all}
 use Rattle.table.proofs.Good.{key-whole}
 use Rattle.listing.specs.Listing.{listed}
 use Rattle.listing.proofs.Rising.{all-perm, perm-length}
 use Rattle.promises.specs.Acceptance.{FitInto}
-use Rattle.promises.proofs.Histories.{Built, enter-built, merge-built}
-use Rattle.promises.proofs.LogReadings.{Sized}
-use Rattle.promises.proofs.Refusals.{refusals-exact}
+use Rattle.promises.proofs.Building.{Built}
 use Rattle.promises.proofs.Sums.{over-permᴰ}
 use Rattle.promises.proofs.Sorted.{Has}
 use Rattle.promises.proofs.Different.{all-counted}
@@ -156,35 +150,11 @@ module _ (c : Settings) (t : Table) (qs rs : List Reading) (r : Reading) (B : Bu
       all-map (λ (a : Row). Has [] (O .keys) (a .key)) (share (c .d) (c .S) r) ps (all-list (λ y. Has [] (O .keys) (take (c .d) y)) ps []
       (λ i l. O .has (getD ps i []) (the-points .point i l) (given-own (getD ps i []) (the-points .heavy i l))))
 
-  own : Lawful (c .d) r
+  pub own : Lawful (c .d) r
   own = all-after (Lawful (c .d)) qs (r ∷ rs) (O .each) .0
 
-  none-met : refusal c t r ≡ 0
-  none-met = refusals-exact .reading c t r (own .position .size) .none .1 (
-    own .position,
-    of-abs (r .value) most-value (own .fair),
-    omega (arith, B .counts, O .few, length-append qs (r ∷ rs)),
-    room-for c t qs (r ∷ rs) B O (shares (c .d) (c .S) r) (shares-apart (c .d) (c .S) (B .fine .ranged .S-least) r) shares-in,
-  )
-
--- ---- a list of readings, one after the other
-one-built : (c : Settings) (t : Table) (qs : List Reading) (r : Reading) → length (r .position) ≡ suc (c .d) → Built c t qs → refusal c t r ≡ 0 → Built c (entered c t r) (qs ++ (r ∷ []))
-one-built c t qs r z B e =
-    let y : enterAll c t (r ∷ []) ≡ record { taken = 1; number = 0; table = entered c t r } = enter-yes c t r [] e ∙ unfold enterAll in refl in
-    subst (λ (o : Outcome). Built c (o .table) (qs ++ take (o .taken) (r ∷ []))) y (enter-built c t qs (r ∷ []) B (z, tt))
-
-pub covered-taken : (c : Settings) (rs : List Reading) (t : Table) (qs : List Reading) → Sized (c .d) rs → Built c t qs → Covers (c .d) (c .S) (c .C) (qs ++ rs) → enterAll c t rs .number ≡ 0
-unfolding enterAll
-covered-taken c [] t qs z B O = refl
-covered-taken c (r ∷ rs) t qs z B O =
-    let e = none-met c t qs rs r B O in
-    ap (λ (o : Outcome). o .number) (enter-yes c t r rs e)
-    ∙ covered-taken c rs (entered c t r) (qs ++ (r ∷ [])) (z .1) (one-built c t qs r (z .0) B e) (subst (Covers (c .d) (c .S) (c .C)) (sym (append-assoc qs (r ∷ []) rs)) O)
-
-pub taken-fits : (c : Settings) (rs : List Reading) (t : Table) (qs : List Reading) → Sized (c .d) rs → Built c t qs → enterAll c t rs .number ≡ 0 → FitInto (c .d) (c .S) (c .C) (qs ++ rs)
-taken-fits c rs t qs z B e =
-    let all = take-all (enterAll c t rs .taken) rs (omega (arith, enter-all c rs t e)) in
-    built-fits c (enterAll c t rs .table) (qs ++ rs) (subst (λ (l : List Reading). Built c (enterAll c t rs .table) (qs ++ l)) all (enter-built c t qs rs B z))
+  pub room-for-reading : t .m + news c t (keysOf (shares (c .d) (c .S) r)) ≤ c .C
+  room-for-reading = room-for c t qs (r ∷ rs) B O (shares (c .d) (c .S) r) (shares-apart (c .d) (c .S) (B .fine .ranged .S-least) r) shares-in
 
 -- ---- a table merged in
 module _ (d S C K : ℕ) (t s : Table) (qs rs : List Reading) where
@@ -194,18 +164,9 @@ module _ (d S C K : ℕ) (t s : Table) (qs rs : List Reading) where
   abbrev b : Settings
   b = record { d = d; S = S; C = K }
 
-  pub merged-fits : Built c t qs → Built b s rs → mergeRefusal c t b s ≡ 0 → FitInto d S C (qs ++ rs)
-  merged-fits B E e = built-fits c (afterMerge c t b s) (qs ++ rs)
-      (subst (λ (x : ℕ). Built c (afterMerge c t b s) (qs ++ elim x [ zero ↦ rs | suc x ↦ [] ])) e (merge-built c t b s qs rs B E))
-
   rows-in : Built b s rs → (O : Covers d S C (qs ++ rs)) → All (λ r. Has [] (O .keys) (r .key)) (rows b s)
   unfolding rows
   rows-in E O = all-tab (λ r. Has [] (O .keys) (r .key)) (s .m) (row b s) (stored-in b s rs E (O .keys) (λ y Y g. O .has y Y (given-before d S y qs rs g)))
 
-  pub covered-merged : Built c t qs → Built b s rs → Covers d S C (qs ++ rs) → mergeRefusal c t b s ≡ 0
-  covered-merged B E O = refusals-exact .merge-call c t b s .none .1 (
-    (B .fine, E .fine),
-    (refl, refl),
-    omega (arith, B .counts, E .counts, O .few, length-append qs rs),
-    room-for c t qs rs B O (rows b s) (rows-apart b s (E .fine)) (rows-in E O),
-  )
+  pub room-for-table : Built c t qs → Built b s rs → Covers d S C (qs ++ rs) → t .m + news c t (keysOf (rows b s)) ≤ C
+  room-for-table B E O = room-for c t qs rs B O (rows b s) (rows-apart b s (E .fine)) (rows-in E O)

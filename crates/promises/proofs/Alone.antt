@@ -1,28 +1,38 @@
--- What an accepted enter and an accepted merge leave alone, from one row added to all that are poured.
+-- What an accepted enter and an accepted merge leave alone, from one row added to all that are poured, and in the book.
 use mathlib.Core.Path.{_≡_, refl, sym, ap, _∙_, subst}
 use mathlib.Core.List.{List, [], _∷_}
-use Prim.Native.Nat.{ℕ, zero, suc, _+_, _-_, _*_, _≤_}
+use Prim.Native.Nat.{ℕ, zero, suc, _+_, _-_, _*_, _%_, _≤_}
 use native.Mathlib.Nat.{mul-le-mul-left}
 use native.Mathlib.Omega.{arith}
+use lib.Dec.{eqb}
 use lib.IntN.{ℤ, pos, _+ℤ_}
-use lib.ListN.{length}
+use lib.ListN.{length, take}
+use lib.Seq.{length-take-le}
 use Rattle.whole.specs.Lists.{at, splice}
 use Rattle.whole.proofs.Lists.{getD-splice-before, getD-splice-after}
 use Rattle.table.specs.Table.{Settings, Table, Row, mass, value, entry, seek, found, rows}
-use Rattle.table.specs.Sound.{Fine}
 use Rattle.table.specs.Pour.{append, raise, addAt, add, pour, accept}
-use Rattle.table.specs.Reading.{Reading, parsed, shares}
-use Rattle.table.specs.Calls.{Outcome, enterAll}
+use Rattle.table.specs.Reading.{shares}
 use Rattle.table.specs.Inner.{Addable, InTurn}
 use Rattle.table.proofs.Store.{pair-else, entry-else}
 use Rattle.table.proofs.Adding.{low-found}
-use Rattle.table.proofs.Shares.{accepted}
 use Rattle.table.proofs.Turns.{in-turn}
-use Rattle.table.proofs.Keeping.{Acceptable, acceptable-pours, reading-acceptable, entered-adds, parsed-size, called, mergeable, source-acceptable}
-use Rattle.table.proofs.Entering.{enter-ind}
-use Rattle.table.proofs.Calls.{enter-done, merge-done}
-use Rattle.promises.specs.EveryCall.{LeftAlone, AcceptedLeavesAlone}
-use Rattle.promises.proofs.LogReadings.{Sized}
+use Rattle.table.proofs.Keeping.{Acceptable, acceptable-pours, reading-acceptable, entered-adds, source-acceptable, merged-adds}
+use Rattle.book.specs.Book.{Numbered, Booked}
+use Rattle.book.specs.Calls.{Outcome, formOf, refusal, entered, parsed, enterAll, mergeRefusal, merged}
+use Rattle.book.specs.Theorems.{FineBook}
+use Rattle.book.proofs.Testing.{to-carries}
+use Rattle.book.proofs.Booking.{form-length, takes, called, merges, enter-keeps}
+use Rattle.book.proofs.Answering.{enter-done, merge-done}
+use Rattle.book.proofs.Entering.{enter-ind, Sized, parsed-size}
+use Rattle.promises.specs.EveryCall.{LeftAlone, BookLeftAlone, AcceptedLeavesAlone}
+
+-- ---- past a stretch that is put into a list
+put-past : (l k : List ℤ) (a i : ℕ) → a ≤ length l → a + length k ≤ i → at (splice l a k) i ≡ at l i
+put-past l k a i h g =
+    let e : a + (length k + (i - (a + length k))) ≡ i = omega (arith, g) in
+    let e′ : a + length k + (i - (a + length k)) ≡ i = omega (arith, g) in
+    ap (λ (j : ℕ). at (splice l a k) j) (sym e) ∙ getD-splice-after l a k (i - (a + length k)) (pos 0) h ∙ ap (λ (j : ℕ). at l j) e′
 
 -- ---- nothing done, and one after the other
 alone-same : (c : Settings) (t : Table) → LeftAlone c t t
@@ -39,13 +49,6 @@ alone-then c t u v A B = record {
 
 -- ---- one row added
 module _ (c : Settings) (t : Table) (r : Row) (A : Addable c t r) where
-  -- past a stretch that is put into a list
-  put-past : (l k : List ℤ) (a i : ℕ) → a ≤ length l → a + length k ≤ i → at (splice l a k) i ≡ at l i
-  put-past l k a i h g =
-      let e : a + (length k + (i - (a + length k))) ≡ i = omega (arith, g) in
-      let e′ : a + length k + (i - (a + length k)) ≡ i = omega (arith, g) in
-      ap (λ (j : ℕ). at (splice l a k) j) (sym e) ∙ getD-splice-after l a k (i - (a + length k)) (pos 0) h ∙ ap (λ (j : ℕ). at l j) e′
-
   begins : found c t (r .key) ≡ 0 → c .d * t .m ≤ length (t .keys)
   begins e = let g = mul-le-mul-left (c .d) (A .room e) in omega (arith, A .kept .shape .keys, g)
 
@@ -90,17 +93,67 @@ accept-alone c t rs k A =
     let P = pour-alone c rs t (in-turn c t rs (acceptable-pours c t rs k A)) in
     record { points = P .points; keys-past = P .keys-past; keys-there = P .keys-there; sums-past = P .sums-past; named = P .named }
 
+-- ---- the book: entries put behind the others
+book-same : (c : Settings) (b : Booked) → BookLeftAlone c b b
+book-same c b = record { table = alone-same c (b .table); readings = omega arith; book-there = λ i h. refl; book-past = λ i h. refl }
+
+book-then : (c : Settings) (b u v : Booked) → BookLeftAlone c b u → BookLeftAlone c u v → BookLeftAlone c b v
+book-then c b u v A B = record {
+  table = alone-then c (b .table) (u .table) (v .table) (A .table) (B .table);
+  readings = omega (arith, A .readings, B .readings);
+  book-there = λ i h. let g = mul-le-mul-left (c .d + 3) (A .readings) in B .book-there i (omega (arith, g, h)) ∙ A .book-there i h;
+  book-past = λ i h. let g = mul-le-mul-left (c .d + 3) (B .readings) in B .book-past i h ∙ A .book-past i (omega (arith, g, h));
+}
+
+module _ (c : Settings) (b : Booked) (u : Table) (l : List ℤ) (k : ℕ) (size : length l ≡ (c .d + 3) * k) (most : b .table .n + k ≤ b .room) (room : length (b .book) ≡ (c .d + 3) * b .room)
+    (A : LeftAlone c (b .table) u) (count : u .n ≡ b .table .n + k) where
+  split : (w n k : ℕ) → w * (n + k) ≡ w * n + w * k
+  split w n k = omega arith
+
+  fit : (c .d + 3) * b .table .n ≤ length (b .book)
+  fit = let g = mul-le-mul-left (c .d + 3) most in omega (arith, g, split (c .d + 3) (b .table .n) k, room)
+
+  behind : BookLeftAlone c b (record { table = u; room = b .room; book = splice (b .book) ((c .d + 3) * b .table .n) l })
+  behind = record {
+    table = A;
+    readings = omega (arith, count);
+    book-there = λ i h. getD-splice-before (b .book) ((c .d + 3) * b .table .n) l i (pos 0) fit h;
+    book-past = λ i h. put-past (b .book) l ((c .d + 3) * b .table .n) i fit
+        (omega (arith, size, split (c .d + 3) (b .table .n) k, subst (λ (n : ℕ). (c .d + 3) * n ≤ i) count h));
+  }
+
 -- ---- a list of readings
-entered-alone : (c : Settings) (rs : List Reading) (t : Table) → Fine c t → Sized (c .d) rs → LeftAlone c t (enterAll c t rs .table)
-entered-alone c = enter-ind c (λ t rs o. Fine c t → Sized (c .d) rs → LeftAlone c t (o .table))
-    (λ t F z. alone-same c t)
-    (λ t r rs x e F z. alone-same c t)
-    (λ t r rs e ih F z. alone-then c t _ _ (accept-alone c t (shares (c .d) (c .S) r) 1 (reading-acceptable c t r F (accepted c t r (z .0) e)))
-    (ih (entered-adds c t r (z .0) F e .fine) (z .1)))
+one-alone : (c : Settings) (b : Booked) (e : Numbered) → length (e .reading .position) ≡ suc (c .d) → FineBook c b → refusal c b e ≡ 0 → BookLeftAlone c b (entered c b e)
+one-alone c b e size F z =
+    let t = b .table in
+    let T = takes c b e size (F .room-most) z in
+    let rs = shares (c .d) (c .S) (e .reading) in
+    let one : (c .d + 3) * 1 ≡ c .d + 3 = omega arith in
+    behind c b _ (formOf e) 1 (form-length (c .d) e size ∙ sym one) (T .room) (F .lengths)
+    (accept-alone c t rs 1 (reading-acceptable c t (e .reading) (F .fine) (T .accepted)))
+    (entered-adds c t (e .reading) (F .fine) (T .accepted) .count)
+
+entered-alone : (c : Settings) (es : List Numbered) (b : Booked) → FineBook c b → Sized (c .d) es → BookLeftAlone c b (enterAll c b es .booked)
+entered-alone c = enter-ind c (λ b es o. FineBook c b → Sized (c .d) es → BookLeftAlone c b (o .booked))
+    (λ b F z. book-same c b)
+    (λ b e es x q F z. book-same c b)
+    (λ b e es q ih F z. book-then c b (entered c b e) _ (one-alone c b e (z .0) F q) (ih (enter-keeps c b e (z .0) F q .fine-book) (z .1)))
+
+-- ---- a table merged
+merged-alone : (c : Settings) (b : Booked) (e : Settings) (s : Booked) → mergeRefusal c b e s ≡ 0 → BookLeftAlone c b (merged c b e s)
+merged-alone c b e s z =
+    let M = merges c b e s z in
+    let t = b .table in
+    let n = s .table .n in
+    let few = to-carries e s (M .source .fine) (M .source .sound) .0 in
+    let there : (c .d + 3) * n ≤ length (s .book) = rw (M .mergeable .same-d, M .source .lengths) (mul-le-mul-left (e .d + 3) few) in
+    behind c b _ (take ((c .d + 3) * n) (s .book)) n (length-take-le ((c .d + 3) * n) (s .book) there) (M .room) (M .target .lengths)
+    (accept-alone c t (rows e (s .table)) n (source-acceptable c t e (s .table) (M .mergeable)))
+    (merged-adds c t e (s .table) (M .mergeable) .count)
 
 pub accepted-leaves-alone : AcceptedLeavesAlone
 accepted-leaves-alone = record {
-  enter-accepted = λ c t l e. subst (λ (o : Outcome). LeftAlone c t (o .table)) (sym (enter-done c t l e))
-      (entered-alone c (parsed (c .d) l) t (called c t _ e .fine) (parsed-size (c .d) l));
-  merge-accepted = λ c t b s e. subst (LeftAlone c t) (sym (merge-done c t b s e)) (accept-alone c t (rows b s) (s .n) (source-acceptable c t b s (mergeable c t b s e)));
+  enter-accepted = λ c b l e. subst (λ (o : Outcome). BookLeftAlone c b (o .booked)) (sym (enter-done c b l e))
+      (entered-alone c (parsed (c .d) l) b (called c b (eqb (length l % (c .d + 3)) 0) e .fine) (parsed-size (c .d) l));
+  merge-accepted = λ c b e s z. subst (BookLeftAlone c b) (sym (merge-done c b e s z)) (merged-alone c b e s z);
 }

@@ -20,7 +20,7 @@ use Rattle.filter.specs.Answer.{code, answer}
 use Rattle.filter.proofs.Between.{Bounded, bounded-zero, bounded-plus, bounded-share, all-between}
 use Rattle.filter.proofs.Theorems.{answer-between}
 use Rattle.promises.specs.Order.{valueIn, leastIn, greatestIn}
-use Rattle.promises.proofs.Histories.{Built}
+use Rattle.promises.proofs.Building.{Built}
 use Rattle.promises.proofs.Holding.{row-from}
 
 -- ---- the values

@@ -1,34 +1,15 @@
 -- Tables with their books: what they are made of is what the book says.
 use mathlib.Core.Path.{_≡_, sym, ap, subst, _∙_}
 use mathlib.Core.List.{List, _∷_, _++_, map-append, Perm, Perm·symm, Perm·trans, Perm·cons-inv, perm-middle}
-use lib.ListN.{length-map}
-use Rattle.table.specs.Table.{Settings, Table}
-use Rattle.table.specs.Reading.{Reading, Lawful}
-use Rattle.table.specs.Sound.{Fine}
-use Rattle.table.proofs.Lists.{all-map}
-use Rattle.book.specs.Book.{Numbered, Booked, entryOf, entries, readingsOf, Carries}
+use Rattle.table.specs.Reading.{Reading}
+use Rattle.book.specs.Book.{Numbered, Booked, entryOf, readingsOf}
 use Rattle.book.specs.Withdraw.{without}
-use Rattle.book.specs.Theorems.{FineBook}
-use Rattle.book.proofs.Testing.{to-carries}
-use Rattle.book.proofs.Summing.{carried-sums}
 use Rattle.book.proofs.Keeping.{withdraw-keeps}
 use Rattle.book.proofs.TakingBack.{withdraw-takes-back, one-place}
 use Rattle.promises.specs.Order.{Same}
 use Rattle.promises.specs.Book.{heldReadings, SoundIsMade, SameBooks, WithdrawForgets}
-use Rattle.promises.proofs.Histories.{Built}
+use Rattle.promises.proofs.Building.{carried-built, book-built}
 use Rattle.promises.proofs.Order.{made, same-built}
-
--- a table that carries entries is built of their readings
-carried-built : (c : Settings) (t : Table) (es : List Numbered) → Fine c t → Carries c t es → Built c t (readingsOf es)
-carried-built c t es F K = record {
-  fine = F;
-  counts = K .counts ∙ sym (length-map es (λ (e : Numbered). e .reading));
-  proper = all-map (Lawful (c .d)) (λ (e : Numbered). e .reading) es (K .limits);
-  sums = carried-sums c es t F K;
-}
-
-book-built : (c : Settings) (b : Booked) → FineBook c b → Built c (b .table) (heldReadings c b)
-book-built c b B = carried-built c (b .table) (entries (c .d) (b .table .n) (b .book)) (B .fine) (to-carries c b (B .fine) (B .sound) .1)
 
 pub sound-is-made : SoundIsMade
 sound-is-made c b B = made c (b .table) (heldReadings c b) (book-built c b B)

@@ -10,10 +10,13 @@ use denote.Triple.Entry.{Args}
 use denote.Triple.Clauses.{Ended}
 use Rattle.whole.specs.Lists.{splice}
 use Rattle.table.specs.declared.Head.{Head}
-use Rattle.table.specs.Table.{Settings, Table}
-use Rattle.table.specs.Calls.{lent, freshRefusal, afterFresh, enter, mergeRefusal, afterMerge}
-use Rattle.table.specs.Heads.{settings, table, headOf, withCounts, Answers, Enters}
-use Rattle.table.proofs.Calls.{fresh-refused, enter-refused, merge-refused}
+use Rattle.table.specs.Table.{Settings}
+use Rattle.table.specs.Calls.{lent}
+use Rattle.table.specs.Heads.{settings, headOf, withCounts}
+use Rattle.book.specs.Book.{Booked}
+use Rattle.book.specs.Calls.{freshRefusal, afterFresh, enter, mergeRefusal, afterMerge, withdrawRefusal, afterWithdraw}
+use Rattle.book.specs.Heads.{booked, AnswersBook, EntersBook}
+use Rattle.book.proofs.Answering.{fresh-refused, enter-refused, merge-refused}
 use Rattle.listing.specs.Listing.{listRefusal, afterList, Lists}
 use Rattle.filter.specs.Filter.{Lent, filterRefusal, afterFilter, Filters}
 use Rattle.reader.specs.Items.{foundAt}
@@ -22,75 +25,80 @@ use Rattle.log.specs.Loading.{load, Loads}
 use Rattle.report.specs.Report.{report, fitting, Reports}
 use Rattle.export.specs.Numbers as numbers
 use Rattle.promises.specs.Contracts.{Only, One, Ensures, Requires, AnswerAndMemory, Allows, Answering}
-use Rattle.book.specs.Book.{Booked}
-use Rattle.book.specs.Calls.{withdrawRefusal, afterWithdraw}
-use Rattle.book.specs.Heads.{booked, AnswersBook}
 use Rattle.promises.specs.EveryCall.{EveryCallOne, ReaderOne, ReaderSays, RefusedLeavesAll}
 
--- ---- what a call on a table answers and leaves
+-- ---- what a call on a table with its book answers and leaves
 record Left : Type 0 where
   number : ℕ
   head : Head
   keys : List ℤ
   sums : List ℤ
   index : List ℕ
+  book : List ℤ
 
-abbrev AnswerAllows : Head → ℕ → Table → Left → Type 0
-AnswerAllows h x t o = Answers h x t (o .number) (o .head) (o .keys) (o .sums) (o .index)
+abbrev AnswerAllows : Head → ℕ → Booked → Left → Type 0
+AnswerAllows h x b o = AnswersBook h x b (o .number) (o .head) (o .keys) (o .sums) (o .index) (o .book)
 
--- the outcome of a call of number x that hands back the head h with the counts of t and leaves the memory of t
-abbrev leftOf : Head → ℕ → Table → Left
-leftOf h x t = record { number = x; head = withCounts h (t .n) (t .m); keys = t .keys; sums = t .sums; index = t .index }
+-- the outcome of a call of number x that hands back the head h with the counts of b and leaves the memory of b
+abbrev leftOf : Head → ℕ → Booked → Left
+leftOf h x b = let t = b .table in record { number = x; head = withCounts h (t .n) (t .m); keys = t .keys; sums = t .sums; index = t .index; book = b .book }
 
-answers-only : (h : Head) (x : ℕ) (t : Table) → Only (AnswerAllows h x t)
-answers-only h x t a b A B = λ i. record {
-  number = (A .number-is ∙ sym (B .number-is)) i;
-  head = (A .head-is ∙ sym (B .head-is)) i;
-  keys = (A .keys-are ∙ sym (B .keys-are)) i;
-  sums = (A .sums-are ∙ sym (B .sums-are)) i;
-  index = (A .index-are ∙ sym (B .index-are)) i;
+answers-only : (h : Head) (x : ℕ) (b : Booked) → Only (AnswerAllows h x b)
+answers-only h x b o u A B = λ i. record {
+  number = (A .answers .number-is ∙ sym (B .answers .number-is)) i;
+  head = (A .answers .head-is ∙ sym (B .answers .head-is)) i;
+  keys = (A .answers .keys-are ∙ sym (B .answers .keys-are)) i;
+  sums = (A .answers .sums-are ∙ sym (B .answers .sums-are)) i;
+  index = (A .answers .index-are ∙ sym (B .answers .index-are)) i;
+  book = (A .book-is ∙ sym (B .book-is)) i;
 }
 
-answers-allowed : (h : Head) (x : ℕ) (t : Table) → AnswerAllows h x t (leftOf h x t)
-answers-allowed h x t = record { number-is = refl; head-is = refl; keys-are = refl; sums-are = refl; index-are = refl }
+answers-allowed : (h : Head) (x : ℕ) (b : Booked) → AnswerAllows h x b (leftOf h x b)
+answers-allowed h x b = record { answers = record { number-is = refl; head-is = refl; keys-are = refl; sums-are = refl; index-are = refl }; book-is = refl }
 
-answers-one : (h : Head) (x : ℕ) (t : Table) → One (AnswerAllows h x t)
-answers-one h x t = record { outcome = leftOf h x t; allowed = answers-allowed h x t; only = answers-only h x t }
+answers-one : (h : Head) (x : ℕ) (b : Booked) → One (AnswerAllows h x b)
+answers-one h x b = record { outcome = leftOf h x b; allowed = answers-allowed h x b; only = answers-only h x b }
 
-enters-one : (h : Head) (t : Table) (l : List ℤ) → One (λ (o : ℕ × Left). Enters h (enter (settings h) t l) (o .0) (o .1 .number) (o .1 .head) (o .1 .keys) (o .1 .sums) (o .1 .index))
-enters-one h t l = let o = enter (settings h) t l in record {
-  outcome = (o .taken, leftOf h (o .number) (o .table));
-  allowed = record { taken-is = refl; answers = answers-allowed h (o .number) (o .table) };
-  only = λ a b A B. λ i. ((A .taken-is ∙ sym (B .taken-is)) i, answers-only h (o .number) (o .table) (a .1) (b .1) (A .answers) (B .answers) i);
+enters-one : (h : Head) (b : Booked) (l : List ℤ)
+    → One (λ (o : ℕ × Left). EntersBook h (enter (settings h) b l) (o .0) (o .1 .number) (o .1 .head) (o .1 .keys) (o .1 .sums) (o .1 .index) (o .1 .book))
+enters-one h b l = let o = enter (settings h) b l in record {
+  outcome = (o .taken, leftOf h (o .number) (o .booked));
+  allowed = record { taken-is = refl; answers = answers-allowed h (o .number) (o .booked) };
+  only = λ u v A B. λ i. ((A .taken-is ∙ sym (B .taken-is)) i, answers-only h (o .number) (o .booked) (u .1) (v .1) (A .answers) (B .answers) i);
 }
 
-loads-one : (l : List ℕ) (t : Table) → One (λ (o : ℕ × Left). Loads (headOf (load l t .settings)) (load l t) (o .1 .number) (o .0) (o .1 .head) (o .1 .keys) (o .1 .sums) (o .1 .index))
-loads-one l t = let o = load l t in let h = headOf (o .settings) in record {
-  outcome = (o .offset, leftOf h (o .number) (o .table));
-  allowed = record { offset-is = refl; answers = answers-allowed h (o .number) (o .table) };
-  only = λ a b A B. λ i. ((A .offset-is ∙ sym (B .offset-is)) i, answers-only h (o .number) (o .table) (a .1) (b .1) (A .answers) (B .answers) i);
-}
+-- the target's head h and the source's g
+merges-one : (h : Head) (b : Booked) (g : Head) (s : Booked) → One (AnswerAllows h (mergeRefusal (settings h) b (settings g) s) (afterMerge (settings h) b (settings g) s))
+merges-one h b g s = answers-one h (mergeRefusal (settings h) b (settings g) s) (afterMerge (settings h) b (settings g) s)
 
-answers-book-one : (h : Head) (x : ℕ) (b : Booked) → One (λ (o : Left × List ℤ). AnswersBook h x b (o .0 .number) (o .0 .head) (o .0 .keys) (o .0 .sums) (o .0 .index) (o .1))
-answers-book-one h x b = record {
-  outcome = (leftOf h x (b .table), b .book);
-  allowed = record { answers = answers-allowed h x (b .table); book-is = refl };
-  only = λ o u A B. λ i. (answers-only h x (b .table) (o .0) (u .0) (A .answers) (B .answers) i, (A .book-is ∙ sym (B .book-is)) i);
+withdraws-one : (h : Head) (b : Booked) (k : ℤ) → One (AnswerAllows h (withdrawRefusal (settings h) b k) (afterWithdraw (settings h) b k))
+withdraws-one h b k = answers-one h (withdrawRefusal (settings h) b k) (afterWithdraw (settings h) b k)
+
+-- what a call that makes a table is lent, with a book of this room
+abbrev lentWith : ℕ → List ℤ → List ℤ → List ℕ → List ℤ → Booked
+lentWith room keys sums index book = record { table = lent keys sums index; room = room; book = book }
+
+loads-one : (l : List ℕ) (b : Booked)
+    → One (λ (o : ℕ × Left). Loads (headOf (load l b .settings) (load l b .booked .room)) (load l b) (o .1 .number) (o .0) (o .1 .head) (o .1 .keys) (o .1 .sums) (o .1 .index) (o .1 .book))
+loads-one l b = let o = load l b in let h = headOf (o .settings) (o .booked .room) in record {
+  outcome = (o .offset, leftOf h (o .number) (o .booked));
+  allowed = record { offset-is = refl; answers = answers-allowed h (o .number) (o .booked) };
+  only = λ u v A B. λ i. ((A .offset-is ∙ sym (B .offset-is)) i, answers-only h (o .number) (o .booked) (u .1) (v .1) (A .answers) (B .answers) i);
 }
 
 -- ---- calls that leave lists
-lists-one : (c : Settings) (t : Table) (list : List ℕ) → One (λ (o : ℕ × List ℕ). Lists c t list (o .0) (o .1))
-lists-one c t list = record {
-  outcome = (listRefusal c t list, afterList c t list);
+lists-one : (c : Settings) (b : Booked) (list : List ℕ) → One (λ (o : ℕ × List ℕ). Lists c b list (o .0) (o .1))
+lists-one c b list = record {
+  outcome = (listRefusal c b list, afterList c b list);
   allowed = record { number-is = refl; list-is = refl };
-  only = λ a b A B. λ i. ((A .number-is ∙ sym (B .number-is)) i, (A .list-is ∙ sym (B .list-is)) i);
+  only = λ u v A B. λ i. ((A .number-is ∙ sym (B .number-is)) i, (A .list-is ∙ sym (B .list-is)) i);
 }
 
-filters-one : (c : Settings) (t : Table) (queries : List ℤ) (l : Lent) → One (λ (o : ℕ × Lent). Filters c t queries l (o .0) (o .1 .first) (o .1 .second) (o .1 .values) (o .1 .codes))
-filters-one c t queries l = record {
-  outcome = (filterRefusal c t queries l, afterFilter c t queries l);
+filters-one : (c : Settings) (b : Booked) (queries : List ℤ) (l : Lent) → One (λ (o : ℕ × Lent). Filters c b queries l (o .0) (o .1 .first) (o .1 .second) (o .1 .values) (o .1 .codes))
+filters-one c b queries l = record {
+  outcome = (filterRefusal c b queries l, afterFilter c b queries l);
   allowed = record { number-is = refl; first-is = refl; second-is = refl; values-are = refl; codes-are = refl };
-  only = λ a b A B. λ i. (
+  only = λ u v A B. λ i. (
     (A .number-is ∙ sym (B .number-is)) i,
     record {
       first = (A .first-is ∙ sym (B .first-is)) i;
@@ -128,47 +136,47 @@ answering one same asks = record { one-outcome = one; no-other = λ κs a o u p 
 pub every-call-one : EveryCallOne
 every-call-one = record {
   fresh = answering (λ κs a. one-retold
-      (λ o. record { number = o .0 .number; head = o .0 .head; keys = o .1 .1 .1 .1 .0; sums = o .1 .1 .1 .1 .1 .0; index = o .1 .1 .1 .1 .1 .1 .0 })
-      (λ o. (record { number = o .number; head = o .head }, (tt, (tt, (tt, (o .keys, (o .sums, (o .index, tt))))))))
+      (λ o. record { number = o .0 .number; head = o .0 .head; keys = o .1 .1 .1 .1 .1 .0; sums = o .1 .1 .1 .1 .1 .1 .0; index = o .1 .1 .1 .1 .1 .1 .1 .0; book = o .1 .1 .1 .1 .1 .1 .1 .1 .0 })
+      (λ o. (record { number = o .number; head = o .head }, (tt, (tt, (tt, (tt, (o .keys, (o .sums, (o .index, (o .book, tt))))))))))
       (λ o. refl)
       (λ o. refl)
-      (let c : Settings = record { d = (a .0); S = (a .1 .0); C = (a .1 .1 .0) } in let t = lent (now (a .1 .1 .1 .0)) (now (a .1 .1 .1 .1 .0)) (now (a .1 .1 .1 .1 .1 .0)) in answers-one (headOf c) (freshRefusal c t) (afterFresh c t))) (λ κs a o p. p) (λ κs a. tt);
+      (let c : Settings = record { d = a .0; S = a .1 .0; C = a .1 .1 .0 } in let room = a .1 .1 .1 .0 in let b = lentWith room (now (a .1 .1 .1 .1 .0)) (now (a .1 .1 .1 .1 .1 .0)) (now (a .1 .1 .1 .1 .1 .1 .0)) (now (a .1 .1 .1 .1 .1 .1 .1 .0)) in answers-one (headOf c room) (freshRefusal c b) (afterFresh c b))) (λ κs a o p. p) (λ κs a. tt);
   enter = answering (λ κs a. one-retold
-      (λ o. (o .0 .taken, record { number = o .0 .number; head = o .0 .head; keys = o .1 .1 .0; sums = o .1 .1 .1 .0; index = o .1 .1 .1 .1 .0 }))
-      (λ o. (record { taken = o .0; number = o .1 .number; head = o .1 .head }, (tt, (o .1 .keys, (o .1 .sums, (o .1 .index, (tt, tt)))))))
+      (λ o. (o .0 .taken, record { number = o .0 .number; head = o .0 .head; keys = o .1 .1 .0; sums = o .1 .1 .1 .0; index = o .1 .1 .1 .1 .0; book = o .1 .1 .1 .1 .1 .0 }))
+      (λ o. (record { taken = o .0; number = o .1 .number; head = o .1 .head }, (tt, (o .1 .keys, (o .1 .sums, (o .1 .index, (o .1 .book, (tt, tt))))))))
       (λ o. refl)
       (λ o. refl)
-      (enters-one (a .0) (table (a .0) (now (a .1 .0)) (now (a .1 .1 .0)) (now (a .1 .1 .1 .0))) (now (a .1 .1 .1 .1 .0)))) (λ κs a o p. p) (λ κs a. tt);
+      (enters-one (a .0) (booked (a .0) (now (a .1 .0)) (now (a .1 .1 .0)) (now (a .1 .1 .1 .0)) (now (a .1 .1 .1 .1 .0))) (now (a .1 .1 .1 .1 .1 .0)))) (λ κs a o p. p) (λ κs a. tt);
   merge = answering (λ κs a. one-retold
-      (λ o. record { number = o .0 .number; head = o .0 .head; keys = o .1 .1 .0; sums = o .1 .1 .1 .0; index = o .1 .1 .1 .1 .0 })
-      (λ o. (record { number = o .number; head = o .head }, (tt, (o .keys, (o .sums, (o .index, (tt, (tt, (tt, (tt, tt))))))))))
+      (λ o. record { number = o .0 .number; head = o .0 .head; keys = o .1 .1 .0; sums = o .1 .1 .1 .0; index = o .1 .1 .1 .1 .0; book = o .1 .1 .1 .1 .1 .0 })
+      (λ o. (record { number = o .number; head = o .head }, (tt, (o .keys, (o .sums, (o .index, (o .book, (tt, (tt, (tt, (tt, (tt, tt))))))))))))
       (λ o. refl)
       (λ o. refl)
-      (let c = settings (a .0) in let t = table (a .0) (now (a .1 .0)) (now (a .1 .1 .0)) (now (a .1 .1 .1 .0)) in let b = settings (a .1 .1 .1 .1 .0) in let s = table (a .1 .1 .1 .1 .0) (now (a .1 .1 .1 .1 .1 .0)) (now (a .1 .1 .1 .1 .1 .1 .0)) (now (a .1 .1 .1 .1 .1 .1 .1 .0)) in answers-one (a .0) (mergeRefusal c t b s) (afterMerge c t b s))) (λ κs a o p. p) (λ κs a. tt);
+      (merges-one (a .0) (booked (a .0) (now (a .1 .0)) (now (a .1 .1 .0)) (now (a .1 .1 .1 .0)) (now (a .1 .1 .1 .1 .0))) (a .1 .1 .1 .1 .1 .0) (booked (a .1 .1 .1 .1 .1 .0) (now (a .1 .1 .1 .1 .1 .1 .0)) (now (a .1 .1 .1 .1 .1 .1 .1 .0)) (now (a .1 .1 .1 .1 .1 .1 .1 .1 .0)) (now (a .1 .1 .1 .1 .1 .1 .1 .1 .1 .0))))) (λ κs a o p. p) (λ κs a. tt);
   withdraw = answering (λ κs a. one-retold
-      (λ o. (record { number = o .0 .number; head = o .0 .head; keys = o .1 .1 .1 .0; sums = o .1 .1 .1 .1 .0; index = o .1 .1 .1 .1 .1 .0 }, o .1 .1 .1 .1 .1 .1 .0))
-      (λ o. (record { number = o .0 .number; head = o .0 .head }, (tt, (tt, (o .0 .keys, (o .0 .sums, (o .0 .index, (o .1, (tt, tt)))))))))
+      (λ o. record { number = o .0 .number; head = o .0 .head; keys = o .1 .1 .0; sums = o .1 .1 .1 .0; index = o .1 .1 .1 .1 .0; book = o .1 .1 .1 .1 .1 .0 })
+      (λ o. (record { number = o .number; head = o .head }, (tt, (o .keys, (o .sums, (o .index, (o .book, (tt, tt))))))))
       (λ o. refl)
       (λ o. refl)
-      (let c = settings (a .0) in let b = booked (a .0) (a .1 .0) (now (a .1 .1 .0)) (now (a .1 .1 .1 .0)) (now (a .1 .1 .1 .1 .0)) (now (a .1 .1 .1 .1 .1 .0)) in let k = a .1 .1 .1 .1 .1 .1 .0 in answers-book-one (a .0) (withdrawRefusal c b k) (afterWithdraw c b k))) (λ κs a o p. p) (λ κs a. tt);
+      (withdraws-one (a .0) (booked (a .0) (now (a .1 .0)) (now (a .1 .1 .0)) (now (a .1 .1 .1 .0)) (now (a .1 .1 .1 .1 .0))) (a .1 .1 .1 .1 .1 .0))) (λ κs a o p. p) (λ κs a. tt);
   list = answering (λ κs a. one-retold
-      (λ o. (o .0, o .1 .1 .1 .1 .1 .0))
-      (λ o. (o .0, (tt, (tt, (tt, (tt, (o .1, tt)))))))
+      (λ o. (o .0, o .1 .1 .1 .1 .1 .1 .0))
+      (λ o. (o .0, (tt, (tt, (tt, (tt, (tt, (o .1, tt))))))))
       (λ o. refl)
       (λ o. refl)
-      (lists-one (settings (a .0)) (table (a .0) (now (a .1 .0)) (now (a .1 .1 .0)) (now (a .1 .1 .1 .0))) (now (a .1 .1 .1 .1 .0)))) (λ κs a o p. p) (λ κs a. tt);
+      (lists-one (settings (a .0)) (booked (a .0) (now (a .1 .0)) (now (a .1 .1 .0)) (now (a .1 .1 .1 .0)) (now (a .1 .1 .1 .1 .0))) (now (a .1 .1 .1 .1 .1 .0)))) (λ κs a o p. p) (λ κs a. tt);
   filter = answering (λ κs a. one-retold
-      (λ o. (o .0, record { first = o .1 .1 .1 .1 .1 .0; second = o .1 .1 .1 .1 .1 .1 .0; values = o .1 .1 .1 .1 .1 .1 .1 .1 .0; codes = o .1 .1 .1 .1 .1 .1 .1 .1 .1 .0 }))
-      (λ o. (o .0, (tt, (tt, (tt, (tt, (o .1 .first, (o .1 .second, (tt, (o .1 .values, (o .1 .codes, tt)))))))))))
+      (λ o. (o .0, record { first = o .1 .1 .1 .1 .1 .1 .0; second = o .1 .1 .1 .1 .1 .1 .1 .0; values = o .1 .1 .1 .1 .1 .1 .1 .1 .1 .0; codes = o .1 .1 .1 .1 .1 .1 .1 .1 .1 .1 .0 }))
+      (λ o. (o .0, (tt, (tt, (tt, (tt, (tt, (o .1 .first, (o .1 .second, (tt, (o .1 .values, (o .1 .codes, tt))))))))))))
       (λ o. refl)
       (λ o. refl)
-      (filters-one (settings (a .0)) (table (a .0) (now (a .1 .0)) (now (a .1 .1 .0)) (now (a .1 .1 .1 .0))) (now (a .1 .1 .1 .1 .1 .1 .0)) (record { first = (now (a .1 .1 .1 .1 .0)); second = (now (a .1 .1 .1 .1 .1 .0)); values = (now (a .1 .1 .1 .1 .1 .1 .1 .0)); codes = (now (a .1 .1 .1 .1 .1 .1 .1 .1 .0)) }))) (λ κs a o p. p) (λ κs a. tt);
+      (filters-one (settings (a .0)) (booked (a .0) (now (a .1 .0)) (now (a .1 .1 .0)) (now (a .1 .1 .1 .0)) (now (a .1 .1 .1 .1 .0))) (now (a .1 .1 .1 .1 .1 .1 .1 .0)) (record { first = (now (a .1 .1 .1 .1 .1 .0)); second = (now (a .1 .1 .1 .1 .1 .1 .0)); values = (now (a .1 .1 .1 .1 .1 .1 .1 .1 .0)); codes = (now (a .1 .1 .1 .1 .1 .1 .1 .1 .1 .0)) }))) (λ κs a o p. p) (λ κs a. tt);
   load = answering (λ κs a. one-retold
-      (λ o. (o .0 .offset, record { number = o .0 .number; head = o .0 .head; keys = o .1 .1 .0; sums = o .1 .1 .1 .0; index = o .1 .1 .1 .1 .0 }))
-      (λ o. (record { number = o .1 .number; offset = o .0; head = o .1 .head }, (tt, (o .1 .keys, (o .1 .sums, (o .1 .index, tt))))))
+      (λ o. (o .0 .offset, record { number = o .0 .number; head = o .0 .head; keys = o .1 .1 .1 .0; sums = o .1 .1 .1 .1 .0; index = o .1 .1 .1 .1 .1 .0; book = o .1 .1 .1 .1 .1 .1 .0 }))
+      (λ o. (record { number = o .1 .number; offset = o .0; head = o .1 .head }, (tt, (tt, (o .1 .keys, (o .1 .sums, (o .1 .index, (o .1 .book, tt))))))))
       (λ o. refl)
       (λ o. refl)
-      (loads-one (now (a .0)) (lent (now (a .1 .0)) (now (a .1 .1 .0)) (now (a .1 .1 .1 .0))))) (λ κs a o p. p) (λ κs a. tt);
+      (loads-one (now (a .0)) (lentWith (a .1 .0) (now (a .1 .1 .0)) (now (a .1 .1 .1 .0)) (now (a .1 .1 .1 .1 .0)) (now (a .1 .1 .1 .1 .1 .0))))) (λ κs a o p. p) (λ κs a. tt);
   report = answering (λ κs a. one-retold
       (λ o. (o .0, o .1 .1 .0))
       (λ o. (o .0, (tt, (o .1, tt))))
@@ -176,41 +184,47 @@ every-call-one = record {
       (λ o. refl)
       (reports-one (now (a .0)) (now (a .1 .0)))) (λ κs a o p. p) (λ κs a. tt);
   vimrothi-fresh = answering (λ κs a. one-retold
-      (λ o. record { number = o .0; head = numbers.headFrom (o .1 .0) (o .1 .1 .0) (o .1 .1 .1 .0) (o .1 .1 .1 .1 .0) (o .1 .1 .1 .1 .1 .0); keys = o .1 .1 .1 .1 .1 .1 .0; sums = o .1 .1 .1 .1 .1 .1 .1 .0; index = o .1 .1 .1 .1 .1 .1 .1 .1 .0 })
-      (λ o. (o .number, (o .head .d, (o .head .fineness, (o .head .capacity, (o .head .readings, (o .head .points, (o .keys, (o .sums, (o .index, tt))))))))))
+      (λ o. record { number = o .0; head = numbers.headFrom (o .1 .0) (o .1 .1 .0) (o .1 .1 .1 .0) (o .1 .1 .1 .1 .0) (o .1 .1 .1 .1 .1 .0) (o .1 .1 .1 .1 .1 .1 .0); keys = o .1 .1 .1 .1 .1 .1 .1 .0; sums = o .1 .1 .1 .1 .1 .1 .1 .1 .0; index = o .1 .1 .1 .1 .1 .1 .1 .1 .1 .0; book = o .1 .1 .1 .1 .1 .1 .1 .1 .1 .1 .0 })
+      (λ o. (o .number, (o .head .d, (o .head .fineness, (o .head .capacity, (o .head .room, (o .head .readings, (o .head .points, (o .keys, (o .sums, (o .index, (o .book, tt))))))))))))
       (λ o. refl)
       (λ o. refl)
-      (let c : Settings = record { d = (now (a .0)); S = (now (a .1 .0)); C = (now (a .1 .1 .0)) } in let t = lent (now (a .1 .1 .1 .1 .1 .0)) (now (a .1 .1 .1 .1 .1 .1 .0)) (now (a .1 .1 .1 .1 .1 .1 .1 .0)) in answers-one (headOf c) (freshRefusal c t) (afterFresh c t))) (λ κs a o p. p) (λ κs a. tt);
+      (let c : Settings = record { d = now (a .0); S = now (a .1 .0); C = now (a .1 .1 .0) } in let room = now (a .1 .1 .1 .0) in let b = lentWith room (now (a .1 .1 .1 .1 .1 .1 .0)) (now (a .1 .1 .1 .1 .1 .1 .1 .0)) (now (a .1 .1 .1 .1 .1 .1 .1 .1 .0)) (now (a .1 .1 .1 .1 .1 .1 .1 .1 .1 .0)) in answers-one (headOf c room) (freshRefusal c b) (afterFresh c b))) (λ κs a o p. p) (λ κs a. tt);
   vimrothi-enter = answering (λ κs a. one-retold
-      (λ o. (o .1 .1 .1 .1 .1 .1 .1 .1 .1 .1 .0, record { number = o .0; head = numbers.headFrom (o .1 .0) (o .1 .1 .0) (o .1 .1 .1 .0) (o .1 .1 .1 .1 .0) (o .1 .1 .1 .1 .1 .0); keys = o .1 .1 .1 .1 .1 .1 .0; sums = o .1 .1 .1 .1 .1 .1 .1 .0; index = o .1 .1 .1 .1 .1 .1 .1 .1 .0 }))
-      (λ o. (o .1 .number, (o .1 .head .d, (o .1 .head .fineness, (o .1 .head .capacity, (o .1 .head .readings, (o .1 .head .points, (o .1 .keys, (o .1 .sums, (o .1 .index, (tt, (o .0, tt))))))))))))
+      (λ o. (o .1 .1 .1 .1 .1 .1 .1 .1 .1 .1 .1 .1 .0, record { number = o .0; head = numbers.headFrom (o .1 .0) (o .1 .1 .0) (o .1 .1 .1 .0) (o .1 .1 .1 .1 .0) (o .1 .1 .1 .1 .1 .0) (o .1 .1 .1 .1 .1 .1 .0); keys = o .1 .1 .1 .1 .1 .1 .1 .0; sums = o .1 .1 .1 .1 .1 .1 .1 .1 .0; index = o .1 .1 .1 .1 .1 .1 .1 .1 .1 .0; book = o .1 .1 .1 .1 .1 .1 .1 .1 .1 .1 .0 }))
+      (λ o. (o .1 .number, (o .1 .head .d, (o .1 .head .fineness, (o .1 .head .capacity, (o .1 .head .room, (o .1 .head .readings, (o .1 .head .points, (o .1 .keys, (o .1 .sums, (o .1 .index, (o .1 .book, (tt, (o .0, tt))))))))))))))
       (λ o. refl)
       (λ o. refl)
-      (let h = (numbers.headFrom (now (a .0)) (now (a .1 .0)) (now (a .1 .1 .0)) (now (a .1 .1 .1 .0)) (now (a .1 .1 .1 .1 .0))) in enters-one h (table h (now (a .1 .1 .1 .1 .1 .0)) (now (a .1 .1 .1 .1 .1 .1 .0)) (now (a .1 .1 .1 .1 .1 .1 .1 .0))) (now (a .1 .1 .1 .1 .1 .1 .1 .1 .0)))) (λ κs a o p. p) (λ κs a. tt);
+      (let h = numbers.headFrom (now (a .0)) (now (a .1 .0)) (now (a .1 .1 .0)) (now (a .1 .1 .1 .0)) (now (a .1 .1 .1 .1 .0)) (now (a .1 .1 .1 .1 .1 .0)) in enters-one h (booked h (now (a .1 .1 .1 .1 .1 .1 .0)) (now (a .1 .1 .1 .1 .1 .1 .1 .0)) (now (a .1 .1 .1 .1 .1 .1 .1 .1 .0)) (now (a .1 .1 .1 .1 .1 .1 .1 .1 .1 .0))) (now (a .1 .1 .1 .1 .1 .1 .1 .1 .1 .1 .0)))) (λ κs a o p. p) (λ κs a. tt);
   vimrothi-merge = answering (λ κs a. one-retold
-      (λ o. record { number = o .0; head = numbers.headFrom (o .1 .0) (o .1 .1 .0) (o .1 .1 .1 .0) (o .1 .1 .1 .1 .0) (o .1 .1 .1 .1 .1 .0); keys = o .1 .1 .1 .1 .1 .1 .0; sums = o .1 .1 .1 .1 .1 .1 .1 .0; index = o .1 .1 .1 .1 .1 .1 .1 .1 .0 })
-      (λ o. (o .number, (o .head .d, (o .head .fineness, (o .head .capacity, (o .head .readings, (o .head .points, (o .keys, (o .sums, (o .index, (tt, (tt, (tt, (tt, (tt, (tt, (tt, (tt, tt))))))))))))))))))
+      (λ o. record { number = o .0; head = numbers.headFrom (o .1 .0) (o .1 .1 .0) (o .1 .1 .1 .0) (o .1 .1 .1 .1 .0) (o .1 .1 .1 .1 .1 .0) (o .1 .1 .1 .1 .1 .1 .0); keys = o .1 .1 .1 .1 .1 .1 .1 .0; sums = o .1 .1 .1 .1 .1 .1 .1 .1 .0; index = o .1 .1 .1 .1 .1 .1 .1 .1 .1 .0; book = o .1 .1 .1 .1 .1 .1 .1 .1 .1 .1 .0 })
+      (λ o. (o .number, (o .head .d, (o .head .fineness, (o .head .capacity, (o .head .room, (o .head .readings, (o .head .points, (o .keys, (o .sums, (o .index, (o .book, (tt, (tt, (tt, (tt, (tt, (tt, (tt, (tt, (tt, (tt, tt))))))))))))))))))))))
       (λ o. refl)
       (λ o. refl)
-      (let h = (numbers.headFrom (now (a .0)) (now (a .1 .0)) (now (a .1 .1 .0)) (now (a .1 .1 .1 .0)) (now (a .1 .1 .1 .1 .0))) in let g = (numbers.headFrom (a .1 .1 .1 .1 .1 .1 .1 .1 .0) (a .1 .1 .1 .1 .1 .1 .1 .1 .1 .0) (a .1 .1 .1 .1 .1 .1 .1 .1 .1 .1 .0) (a .1 .1 .1 .1 .1 .1 .1 .1 .1 .1 .1 .0) (a .1 .1 .1 .1 .1 .1 .1 .1 .1 .1 .1 .1 .0)) in let c = settings h in let t = table h (now (a .1 .1 .1 .1 .1 .0)) (now (a .1 .1 .1 .1 .1 .1 .0)) (now (a .1 .1 .1 .1 .1 .1 .1 .0)) in let b = settings g in let s = table g (now (a .1 .1 .1 .1 .1 .1 .1 .1 .1 .1 .1 .1 .1 .0)) (now (a .1 .1 .1 .1 .1 .1 .1 .1 .1 .1 .1 .1 .1 .1 .0)) (now (a .1 .1 .1 .1 .1 .1 .1 .1 .1 .1 .1 .1 .1 .1 .1 .0)) in answers-one h (mergeRefusal c t b s) (afterMerge c t b s))) (λ κs a o p. p) (λ κs a. tt);
+      (let h = numbers.headFrom (now (a .0)) (now (a .1 .0)) (now (a .1 .1 .0)) (now (a .1 .1 .1 .0)) (now (a .1 .1 .1 .1 .0)) (now (a .1 .1 .1 .1 .1 .0)) in let g = numbers.headFrom (a .1 .1 .1 .1 .1 .1 .1 .1 .1 .1 .0) (a .1 .1 .1 .1 .1 .1 .1 .1 .1 .1 .1 .0) (a .1 .1 .1 .1 .1 .1 .1 .1 .1 .1 .1 .1 .0) (a .1 .1 .1 .1 .1 .1 .1 .1 .1 .1 .1 .1 .1 .0) (a .1 .1 .1 .1 .1 .1 .1 .1 .1 .1 .1 .1 .1 .1 .0) (a .1 .1 .1 .1 .1 .1 .1 .1 .1 .1 .1 .1 .1 .1 .1 .0) in merges-one h (booked h (now (a .1 .1 .1 .1 .1 .1 .0)) (now (a .1 .1 .1 .1 .1 .1 .1 .0)) (now (a .1 .1 .1 .1 .1 .1 .1 .1 .0)) (now (a .1 .1 .1 .1 .1 .1 .1 .1 .1 .0))) g (booked g (now (a .1 .1 .1 .1 .1 .1 .1 .1 .1 .1 .1 .1 .1 .1 .1 .1 .0)) (now (a .1 .1 .1 .1 .1 .1 .1 .1 .1 .1 .1 .1 .1 .1 .1 .1 .1 .0)) (now (a .1 .1 .1 .1 .1 .1 .1 .1 .1 .1 .1 .1 .1 .1 .1 .1 .1 .1 .0)) (now (a .1 .1 .1 .1 .1 .1 .1 .1 .1 .1 .1 .1 .1 .1 .1 .1 .1 .1 .1 .0))))) (λ κs a o p. p) (λ κs a. tt);
+  vimrothi-withdraw = answering (λ κs a. one-retold
+      (λ o. record { number = o .0; head = numbers.headFrom (o .1 .0) (o .1 .1 .0) (o .1 .1 .1 .0) (o .1 .1 .1 .1 .0) (o .1 .1 .1 .1 .1 .0) (o .1 .1 .1 .1 .1 .1 .0); keys = o .1 .1 .1 .1 .1 .1 .1 .0; sums = o .1 .1 .1 .1 .1 .1 .1 .1 .0; index = o .1 .1 .1 .1 .1 .1 .1 .1 .1 .0; book = o .1 .1 .1 .1 .1 .1 .1 .1 .1 .1 .0 })
+      (λ o. (o .number, (o .head .d, (o .head .fineness, (o .head .capacity, (o .head .room, (o .head .readings, (o .head .points, (o .keys, (o .sums, (o .index, (o .book, (tt, tt)))))))))))))
+      (λ o. refl)
+      (λ o. refl)
+      (let h = numbers.headFrom (now (a .0)) (now (a .1 .0)) (now (a .1 .1 .0)) (now (a .1 .1 .1 .0)) (now (a .1 .1 .1 .1 .0)) (now (a .1 .1 .1 .1 .1 .0)) in withdraws-one h (booked h (now (a .1 .1 .1 .1 .1 .1 .0)) (now (a .1 .1 .1 .1 .1 .1 .1 .0)) (now (a .1 .1 .1 .1 .1 .1 .1 .1 .0)) (now (a .1 .1 .1 .1 .1 .1 .1 .1 .1 .0))) (a .1 .1 .1 .1 .1 .1 .1 .1 .1 .1 .0))) (λ κs a o p. p) (λ κs a. tt);
   vimrothi-list = answering (λ κs a. one-retold
-      (λ o. (o .0, o .1 .1 .1 .1 .1 .1 .1 .1 .1 .0))
-      (λ o. (o .0, (tt, (tt, (tt, (tt, (tt, (tt, (tt, (tt, (o .1, tt)))))))))))
+      (λ o. (o .0, o .1 .1 .1 .1 .1 .1 .1 .1 .1 .1 .1 .0))
+      (λ o. (o .0, (tt, (tt, (tt, (tt, (tt, (tt, (tt, (tt, (tt, (tt, (o .1, tt)))))))))))))
       (λ o. refl)
       (λ o. refl)
-      (let h = (numbers.headFrom (a .0) (a .1 .0) (a .1 .1 .0) (a .1 .1 .1 .0) (a .1 .1 .1 .1 .0)) in lists-one (settings h) (table h (now (a .1 .1 .1 .1 .1 .0)) (now (a .1 .1 .1 .1 .1 .1 .0)) (now (a .1 .1 .1 .1 .1 .1 .1 .0))) (now (a .1 .1 .1 .1 .1 .1 .1 .1 .0)))) (λ κs a o p. p) (λ κs a. tt);
+      (let h = numbers.headFrom (a .0) (a .1 .0) (a .1 .1 .0) (a .1 .1 .1 .0) (a .1 .1 .1 .1 .0) (a .1 .1 .1 .1 .1 .0) in lists-one (settings h) (booked h (now (a .1 .1 .1 .1 .1 .1 .0)) (now (a .1 .1 .1 .1 .1 .1 .1 .0)) (now (a .1 .1 .1 .1 .1 .1 .1 .1 .0)) (now (a .1 .1 .1 .1 .1 .1 .1 .1 .1 .0))) (now (a .1 .1 .1 .1 .1 .1 .1 .1 .1 .1 .0)))) (λ κs a o p. p) (λ κs a. tt);
   vimrothi-filter = answering (λ κs a. one-retold
-      (λ o. (o .0, record { first = o .1 .1 .1 .1 .1 .1 .1 .1 .1 .0; second = o .1 .1 .1 .1 .1 .1 .1 .1 .1 .1 .0; values = o .1 .1 .1 .1 .1 .1 .1 .1 .1 .1 .1 .1 .0; codes = o .1 .1 .1 .1 .1 .1 .1 .1 .1 .1 .1 .1 .1 .0 }))
-      (λ o. (o .0, (tt, (tt, (tt, (tt, (tt, (tt, (tt, (tt, (o .1 .first, (o .1 .second, (tt, (o .1 .values, (o .1 .codes, tt)))))))))))))))
+      (λ o. (o .0, record { first = o .1 .1 .1 .1 .1 .1 .1 .1 .1 .1 .1 .0; second = o .1 .1 .1 .1 .1 .1 .1 .1 .1 .1 .1 .1 .0; values = o .1 .1 .1 .1 .1 .1 .1 .1 .1 .1 .1 .1 .1 .1 .0; codes = o .1 .1 .1 .1 .1 .1 .1 .1 .1 .1 .1 .1 .1 .1 .1 .0 }))
+      (λ o. (o .0, (tt, (tt, (tt, (tt, (tt, (tt, (tt, (tt, (tt, (tt, (o .1 .first, (o .1 .second, (tt, (o .1 .values, (o .1 .codes, tt)))))))))))))))))
       (λ o. refl)
       (λ o. refl)
-      (let h = (numbers.headFrom (a .0) (a .1 .0) (a .1 .1 .0) (a .1 .1 .1 .0) (a .1 .1 .1 .1 .0)) in filters-one (settings h) (table h (now (a .1 .1 .1 .1 .1 .0)) (now (a .1 .1 .1 .1 .1 .1 .0)) (now (a .1 .1 .1 .1 .1 .1 .1 .0))) (now (a .1 .1 .1 .1 .1 .1 .1 .1 .1 .1 .0)) (record { first = (now (a .1 .1 .1 .1 .1 .1 .1 .1 .0)); second = (now (a .1 .1 .1 .1 .1 .1 .1 .1 .1 .0)); values = (now (a .1 .1 .1 .1 .1 .1 .1 .1 .1 .1 .1 .0)); codes = (now (a .1 .1 .1 .1 .1 .1 .1 .1 .1 .1 .1 .1 .0)) }))) (λ κs a o p. p) (λ κs a. tt);
+      (let h = numbers.headFrom (a .0) (a .1 .0) (a .1 .1 .0) (a .1 .1 .1 .0) (a .1 .1 .1 .1 .0) (a .1 .1 .1 .1 .1 .0) in filters-one (settings h) (booked h (now (a .1 .1 .1 .1 .1 .1 .0)) (now (a .1 .1 .1 .1 .1 .1 .1 .0)) (now (a .1 .1 .1 .1 .1 .1 .1 .1 .0)) (now (a .1 .1 .1 .1 .1 .1 .1 .1 .1 .0))) (now (a .1 .1 .1 .1 .1 .1 .1 .1 .1 .1 .1 .1 .0)) (record { first = (now (a .1 .1 .1 .1 .1 .1 .1 .1 .1 .1 .0)); second = (now (a .1 .1 .1 .1 .1 .1 .1 .1 .1 .1 .1 .0)); values = (now (a .1 .1 .1 .1 .1 .1 .1 .1 .1 .1 .1 .1 .1 .0)); codes = (now (a .1 .1 .1 .1 .1 .1 .1 .1 .1 .1 .1 .1 .1 .1 .0)) }))) (λ κs a o p. p) (λ κs a. tt);
   vimrothi-load = answering (λ κs a. one-retold
-      (λ o. (o .1 .1 .1 .1 .1 .1 .1 .1 .1 .1 .0, record { number = o .0; head = numbers.headFrom (o .1 .1 .0) (o .1 .1 .1 .0) (o .1 .1 .1 .1 .0) (o .1 .1 .1 .1 .1 .0) (o .1 .1 .1 .1 .1 .1 .0); keys = o .1 .1 .1 .1 .1 .1 .1 .0; sums = o .1 .1 .1 .1 .1 .1 .1 .1 .0; index = o .1 .1 .1 .1 .1 .1 .1 .1 .1 .0 }))
-      (λ o. (o .1 .number, (tt, (o .1 .head .d, (o .1 .head .fineness, (o .1 .head .capacity, (o .1 .head .readings, (o .1 .head .points, (o .1 .keys, (o .1 .sums, (o .1 .index, (o .0, tt))))))))))))
+      (λ o. (o .1 .1 .1 .1 .1 .1 .1 .1 .1 .1 .1 .1 .1 .0, record { number = o .0; head = numbers.headFrom (o .1 .1 .1 .0) (o .1 .1 .1 .1 .0) (o .1 .1 .1 .1 .1 .0) (o .1 .1 .1 .1 .1 .1 .0) (o .1 .1 .1 .1 .1 .1 .1 .0) (o .1 .1 .1 .1 .1 .1 .1 .1 .0); keys = o .1 .1 .1 .1 .1 .1 .1 .1 .1 .0; sums = o .1 .1 .1 .1 .1 .1 .1 .1 .1 .1 .0; index = o .1 .1 .1 .1 .1 .1 .1 .1 .1 .1 .1 .0; book = o .1 .1 .1 .1 .1 .1 .1 .1 .1 .1 .1 .1 .0 }))
+      (λ o. (o .1 .number, (tt, (tt, (o .1 .head .d, (o .1 .head .fineness, (o .1 .head .capacity, (o .1 .head .room, (o .1 .head .readings, (o .1 .head .points, (o .1 .keys, (o .1 .sums, (o .1 .index, (o .1 .book, (o .0, tt)))))))))))))))
       (λ o. refl)
       (λ o. refl)
-      (loads-one (now (a .0)) (lent (now (a .1 .1 .1 .1 .1 .1 .0)) (now (a .1 .1 .1 .1 .1 .1 .1 .0)) (now (a .1 .1 .1 .1 .1 .1 .1 .1 .0))))) (λ κs a o p. p) (λ κs a. tt);
+      (loads-one (now (a .0)) (lentWith (a .1 .0) (now (a .1 .1 .1 .1 .1 .1 .1 .1 .0)) (now (a .1 .1 .1 .1 .1 .1 .1 .1 .1 .0)) (now (a .1 .1 .1 .1 .1 .1 .1 .1 .1 .1 .0)) (now (a .1 .1 .1 .1 .1 .1 .1 .1 .1 .1 .1 .0))))) (λ κs a o p. p) (λ κs a. tt);
   vimrothi-report = answering (λ κs a. one-retold
       (λ o. (o .0, o .1 .1 .0))
       (λ o. (o .0, (tt, (o .1, tt))))
@@ -240,11 +254,12 @@ reader-says = record { reader-at-says = λ w κs a r e. refl; next-says = λ w �
 
 -- ---- refused as a whole
 pub refused-leaves-all : RefusedLeavesAll
-unfolding afterList afterFilter
+unfolding afterWithdraw afterList afterFilter
 refused-leaves-all = record {
   fresh-refused = fresh-refused;
   enter-refused = enter-refused;
   merge-refused = merge-refused;
-  list-refused = λ c t list x e. rw (e, afterList);
-  filter-refused = λ c t queries l x e. rw (e, afterFilter);
+  withdraw-refused = λ c b k x e. rw (e, afterWithdraw);
+  list-refused = λ c b list x e. rw (e, afterList);
+  filter-refused = λ c b queries l x e. rw (e, afterFilter);
 }

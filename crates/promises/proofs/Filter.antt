@@ -21,10 +21,11 @@ use Rattle.table.specs.Table.{Settings, Table, key, whole, found, pairAt, held}
 use Rattle.table.specs.Reading.{shares, entered}
 use Rattle.table.specs.Sound.{Fine}
 use Rattle.table.proofs.Good.{key-whole}
-use Rattle.table.proofs.Shares.{accepted}
 use Rattle.table.proofs.Pouring.{poured-all}
 use Rattle.table.proofs.Keeping.{acceptable-pours, reading-acceptable, entered-adds}
-use Rattle.table.proofs.Theorems.{search-finds, enter-keeps, enter-adds, stored-exactly}
+use Rattle.table.proofs.Theorems.{search-finds, stored-exactly}
+use Rattle.book.proofs.Booking.{takes}
+use Rattle.book.proofs.Adding.{enter-adds}
 use Rattle.blur.specs.Blur.{pass, passes, isStored, massAfter, valueAfter, blurredMass, blurredValue}
 use Rattle.blur.proofs.Theorems.{masses-low, sheet-holds}
 use Rattle.filter.specs.Answer.{weighted, valueBy, code}
@@ -67,17 +68,22 @@ stored-grown c t u U U′ k w e =
     (λ h. ⊎-elim (λ l. inl (found-some l)) inr (there (some′ h)), λ h. found-some′ (back (⊎-elim (λ l. inl (some l)) inr h)))
 
 pub enters-each-reading : EntersEachReading
-enters-each-reading c t r size U e =
+enters-each-reading c b e size F z =
+    let t = b .table in
+    let r = e .reading in
     let u = entered c t r in
     let rows = shares (c .d) (c .S) r in
-    let U′ = enter-keeps c t r size U e in
-    let adds = enter-adds c t r size U e in
+    let U = F .fine in
+    let A = takes c b e size (F .room-most) z .accepted in
+    let R = entered-adds c t r U A in
+    let U′ = R .fine in
+    let adds = enter-adds c b e size F z in
     record {
       at-points = adds;
       elsewhere = λ k h. held-nothing c u U′ k h ∙ sym (held-nothing c t U k h);
       stored = λ y Y. stored-grown c t u U U′ (take (c .d) y) (weight (c .d) (c .S) (at (r .position)) (at y)) (ap (λ (p : ℤ × ℤ). p .0) (adds y Y));
-      readings = entered-adds c t r size U e .count;
-      points = poured-all c t rows (acceptable-pours c t rows 1 (reading-acceptable c t r U (accepted c t r size e))) .points;
+      readings = R .count;
+      points = poured-all c t rows (acceptable-pours c t rows 1 (reading-acceptable c t r U A)) .points;
     }
 
 -- ---- blurring

@@ -34,6 +34,11 @@ passes false t p = t .apart p (t .fail (λ f. f))
 pub tells-both : {a b : Bool} {P N Q M : Type 0} → Tells a P N → Tells b Q M → Tells (a && b) (P × Q) (Not (P × Q))
 tells-both {a} {b} A B = tells (λ t. (A .pass (and-l a b t), B .pass (and-r a b t))) (λ p. and-i a b (passes a A (p .0)) (passes b B (p .1)))
 
+-- the contrary test tells them the other way round
+pub tells-not : {b : Bool} {P : Type 0} → Tells b P (Not P) → Tells (not b) (Not P) P
+tells-not {b = true} t = record { pass = λ f. absurd f; fail = λ n. t .pass tt; apart = λ n p. n p }
+tells-not {b = false} t = record { pass = λ h. t .fail (λ f. f); fail = λ n. absurd (n tt); apart = λ n p. n p }
+
 -- the same facts in other words
 pub retold : {b : Bool} {P N Q : Type 0} → Tells b P N → P ↔ Q → Tells b Q (Not Q)
 retold {b} t e = tells (λ h. e .0 (t .pass h)) (λ q. passes b t (e .1 q))
@@ -66,11 +71,14 @@ unfolding first
 stops {b = true} {k = k} {l = l} t n = record { when = (λ e. absurd (absent-first k l n e), λ f. absurd (t .apart (t .pass tt) f)) }
 stops {b = false} t n = record { when = (λ e. t .fail (λ f. f), λ f. refl) }
 
--- another number: that test passes, and the later ones decide
-pub goes : {b : Bool} {P N B : Type 0} {k x : ℕ} {l : List (Bool × ℕ)} → Tells b P N → T (not (eqb x k)) → Gives l x B → Gives ((b, k) ∷ l) x (P × B)
+-- another number: that test passes, and the later ones decide, where it is known that it has passed
+pub goes-on : {b : Bool} {P N B : Type 0} {k x : ℕ} {l : List (Bool × ℕ)} → Tells b P N → T (not (eqb x k)) → (P → Gives l x B) → Gives ((b, k) ∷ l) x (P × B)
 unfolding first
-goes {b = true} t n h = record { when = (λ e. (t .pass tt, h .when .0 e), λ p. h .when .1 (p .1)) }
-goes {b = false} {k = k} {x = x} t n h = record { when = (λ e. absurd (other x k n e), λ p. absurd (t .apart (p .0) (t .fail (λ f. f)))) }
+goes-on {b = true} t n h = record { when = (λ e. let p = t .pass tt in (p, h p .when .0 e), λ p. h (p .0) .when .1 (p .1)) }
+goes-on {b = false} {k = k} {x = x} t n h = record { when = (λ e. absurd (other x k n e), λ p. absurd (t .apart (p .0) (t .fail (λ f. f)))) }
+
+pub goes : {b : Bool} {P N B : Type 0} {k x : ℕ} {l : List (Bool × ℕ)} → Tells b P N → T (not (eqb x k)) → Gives l x B → Gives ((b, k) ∷ l) x (P × B)
+goes t n h = goes-on t n (λ p. h)
 
 -- no number: the last test passes
 pub ends : {b : Bool} {P N : Type 0} {k : ℕ} → Tells b P N → Gives ((b, suc k) ∷ []) 0 P
@@ -93,3 +101,6 @@ flat-three h = reworded h (λ p. (p .0, p .1 .0, p .1 .1), λ p. (p .0, (p .1, p
 
 pub flat-four : {l : List (Bool × ℕ)} {x : ℕ} {P Q R S : Type 0} → Gives l x (P × (Q × R × S)) → Gives l x (P × Q × R × S)
 flat-four h = reworded h (λ p. (p .0, p .1 .0, p .1 .1, p .1 .2), λ p. (p .0, (p .1, p .2, p .3)))
+
+pub flat-five : {l : List (Bool × ℕ)} {x : ℕ} {P Q R S U : Type 0} → Gives l x (P × (Q × R × S × U)) → Gives l x (P × Q × R × S × U)
+flat-five h = reworded h (λ p. (p .0, p .1 .0, p .1 .1, p .1 .2, p .1 .3), λ p. (p .0, (p .1, p .2, p .3, p .4)))

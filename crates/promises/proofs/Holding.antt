@@ -16,7 +16,7 @@ use Rattle.table.proofs.Shares.{share-given}
 use Rattle.table.proofs.Meaning.{gives-additive, held-given}
 use Rattle.blur.proofs.Stored.{fine-readable, own-pair}
 use Rattle.promises.specs.Order.{RowFrom}
-use Rattle.promises.proofs.Histories.{Built}
+use Rattle.promises.proofs.Building.{Built}
 use Rattle.promises.proofs.Sums.{over-perm}
 
 -- what readings add to a key: of each reading, what its shares give to it

@@ -27,12 +27,17 @@ inner-only = record {
   in-range = λ κs a o u p q. λ i. ((p ∙ sym q) i, o .1);
   lengths-fit = λ κs a o u p q. λ i. ((p ∙ sym q) i, o .1);
   with-counts = λ κs a o u p q. λ i. ((p ∙ sym q) i, o .1);
+  clear-keys = λ κs a o u p q. λ i. (o .0, ((p ∙ sym q) i, tt));
   clear-sums = λ κs a o u p q. λ i. (o .0, ((p ∙ sym q) i, tt));
   clear-index = λ κs a o u p q. λ i. (o .0, ((p ∙ sym q) i, tt));
   own-refusal = λ κs a o u p q. λ i. ((p ∙ sym q) i, o .1);
+  book-range = λ κs a o u p q. λ i. ((p ∙ sym q) i, o .1);
+  book-lengths = λ κs a o u p q. λ i. ((p ∙ sym q) i, o .1);
+  write-at = λ κs a o u p q. λ i. (o .0, ((p ∙ sym q) i, (tt, (tt, tt))));
+  put-entry = λ κs a o u p q. λ i. (o .0, ((p ∙ sym q) i, (tt, (tt, (tt, (tt, tt))))));
   is-sound = λ κs a o u p q. λ i. ((p ∙ sym q) i, o .1);
-  refusal-of = λ κs a o u p q. λ i. ((p ∙ sym q) i, o .1);
   place-of = λ κs a o u p q. λ i. ((p ∙ sym q) i, o .1);
+  is-held = λ κs a o u p q. λ i. ((p ∙ sym q) i, o .1);
   add-number = λ κs a o u p q.
       let numbers = now (a .0) in
       let places = now (a .1 .0) in
@@ -47,6 +52,8 @@ inner-only = record {
       );
   index-book = λ κs a o u p q. λ i. ((p .ok-is ∙ sym (q .ok-is)) i, ((p .numbers-are ∙ sym (q .numbers-are)) i, ((p .places-are ∙ sym (q .places-are)) i, (tt, (tt, (tt, tt))))));
   numbers-apart = λ κs a o u p q. λ i. ((p ∙ sym q) i, o .1);
+  none-met = λ κs a o u p q. λ i. ((p ∙ sym q) i, o .1);
+  lowest-from = λ κs a o u p q. λ i. ((p ∙ sym q) i, o .1);
   add-row = λ κs a o u p q. λ i. ((p .points-are ∙ sym (q .points-are)) i, (tt, (tt, ((p .keys-are ∙ sym (q .keys-are)) i, ((p .sums-are ∙ sym (q .sums-are)) i, ((p .index-are ∙ sym (q .index-are)) i, (tt, (tt, (tt, tt)))))))));
   is-new = λ κs a o u p q. λ i. ((p ∙ sym q) i, o .1);
   set-pair = λ κs a o u p q. λ i. (o .0, ((p ∙ sym q) i, (tt, (tt, (tt, tt)))));
@@ -58,9 +65,27 @@ inner-only = record {
   pour-shares = λ κs a o u p q. λ i. ((p .points-are ∙ sym (q .points-are)) i, (tt, ((p .keys-are ∙ sym (q .keys-are)) i, ((p .sums-are ∙ sym (q .sums-are)) i, ((p .index-are ∙ sym (q .index-are)) i, (tt, (tt, (tt, tt))))))));
   spread-reading = λ κs a o u p q. λ i. ((p .missing-are ∙ sym (q .missing-are)) i, (tt, (tt, (tt, ((p .left-is ∙ sym (q .left-is)) i, (tt, tt))))));
   sums-are-theirs = λ κs a o u p q. λ i. ((p ∙ sym q) i, o .1);
-  carried-refusal = λ κs a o u p q. λ i. ((p ∙ sym q) i, o .1);
+  is-carried = λ κs a o u p q. λ i. ((p ∙ sym q) i, o .1);
+  refusal-of = λ κs a o u p q. λ i. ((p ∙ sym q) i, o .1);
   take = λ κs a o u p q. λ i. (record { number = (p .number-is ∙ sym (q .number-is)) i; head = (p .head-is ∙ sym (q .head-is)) i }, (tt, ((p .keys-are ∙ sym (q .keys-are)) i, ((p .sums-are ∙ sym (q .sums-are)) i, ((p .index-are ∙ sym (q .index-are)) i, (tt, tt))))));
-  enter-one = λ κs a o u p q. λ i. (record { number = (p .number-is ∙ sym (q .number-is)) i; head = (p .head-is ∙ sym (q .head-is)) i }, (tt, ((p .keys-are ∙ sym (q .keys-are)) i, ((p .sums-are ∙ sym (q .sums-are)) i, ((p .index-are ∙ sym (q .index-are)) i, (tt, tt))))));
+  enter-one = λ κs a o u p q.
+      let A = p .0 .answers in
+      let B = q .0 .answers in λ i. (
+        record { number = (A .number-is ∙ sym (B .number-is)) i; head = (A .head-is ∙ sym (B .head-is)) i },
+        (
+          tt,
+          (
+            (A .keys-are ∙ sym (B .keys-are)) i,
+            (
+              (A .sums-are ∙ sym (B .sums-are)) i,
+              (
+                (A .index-are ∙ sym (B .index-are)) i,
+                ((p .0 .book-is ∙ sym (q .0 .book-is)) i, ((p .1 .numbers-are ∙ sym (q .1 .numbers-are)) i, ((p .1 .places-are ∙ sym (q .1 .places-are)) i, (tt, (tt, tt))))),
+              ),
+            ),
+          ),
+        ),
+      );
   fill = λ κs a o u p q. λ i. (o .0, (tt, (tt, (tt, ((p ∙ sym q) i, tt)))));
   pair-of = λ κs a o u p q. λ i. (record { stored = (p .stored-is ∙ sym (q .stored-is)) i; mass = (p .mass-is ∙ sym (q .mass-is)) i; value = (p .value-is ∙ sym (q .value-is)) i }, o .1);
   blur = λ κs a o u p q. λ i. (o .0, (tt, (tt, (tt, (tt, ((p .first-is ∙ sym (q .first-is)) i, ((p .second-is ∙ sym (q .second-is)) i, tt)))))));

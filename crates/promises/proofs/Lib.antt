@@ -11,7 +11,9 @@ pub mod Program
 pub mod LogRefusals
 pub mod LogReadings
 pub mod Alone
+pub mod Building
 pub mod Histories
+pub mod Rooms
 pub mod Sums
 pub mod Sorted
 pub mod Different
@@ -22,5 +24,7 @@ pub mod Total
 pub mod Order
 pub mod Book
 pub mod Acceptance
+pub mod Fitting
 pub mod Taking
+pub mod Unnumbered
 pub mod Printing

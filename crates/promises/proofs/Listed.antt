@@ -23,7 +23,7 @@ use Rattle.listing.proofs.KeyOrder.{before-irr, before-trans}
 use Rattle.listing.proofs.Rising.{all-at, all-imp}
 use Rattle.listing.proofs.Listings.{ordered-perm, order-low, order-lists}
 use Rattle.promises.specs.Order.{RowFrom, ListedFrom}
-use Rattle.promises.proofs.Histories.{Built}
+use Rattle.promises.proofs.Building.{Built}
 use Rattle.promises.proofs.Sums.{over-perm}
 use Rattle.promises.proofs.Sorted.{Has, has-perm, one-list, map-at}
 use Rattle.promises.proofs.Holding.{holds-at, row-from}

@@ -11,12 +11,14 @@ use Rattle.table.specs.Reading.{Reading}
 use Rattle.table.proofs.Lists.{over-tab, over-map}
 use Rattle.table.proofs.Rows.{valueOf}
 use Rattle.table.proofs.Keeping.{rows-mass}
+use Rattle.book.specs.Book.{readingsOf}
 use Rattle.listing.specs.Listing.{order, listed}
 use Rattle.listing.proofs.Listings.{ordered-perm, order-length}
 use Rattle.filter.proofs.Theorems.{answer-of-map}
-use Rattle.promises.specs.History.{settingsIn, run, taken}
+use Rattle.promises.specs.History.{History, settingsIn, run, Begun, taken}
 use Rattle.promises.specs.Order.{ListedFrom, MadeOf, Same, MadeOfThoseTaken, TakenInAnyOrder, OrderDoesNotMatter}
-use Rattle.promises.proofs.Histories.{Built, built, all-taken}
+use Rattle.promises.proofs.Building.{Built, holds-built}
+use Rattle.promises.proofs.Histories.{book-is-taken, all-taken}
 use Rattle.promises.proofs.Sums.{over-permᴰ, length-perm}
 use Rattle.promises.proofs.Holding.{added, added-perm, holds-added}
 use Rattle.promises.proofs.Listed.{listed-perm, one-listing, listing-from}
@@ -45,8 +47,12 @@ made c t rs B = record {
   between = answer-within c t rs B;
 }
 
+-- so is that of a history
+built : (d S : ℕ) (h : History) → Begun d S h → Built (settingsIn d S h) (run d S h .table) (readingsOf (taken d S h))
+built d S h k = holds-built (settingsIn d S h) (run d S h) (taken d S h) (book-is-taken d S h k)
+
 pub made-of-those-taken : MadeOfThoseTaken
-made-of-those-taken d S h k = made (settingsIn d S h) (run d S h) (taken d S h) (built d S h k)
+made-of-those-taken d S h k = made (settingsIn d S h) (run d S h .table) (readingsOf (taken d S h)) (built d S h k)
 
 -- ---- and their order does not matter: two tables of one d and S, made of the same readings, are alike
 pub same-built : (c : Settings) (t : Table) (rs : List Reading) (b : Settings) (s : Table) (qs : List Reading) → c .d ≡ b .d → c .S ≡ b .S
@@ -69,7 +75,7 @@ same-built c t rs b s qs e f B G p = record {
 
 pub taken-in-any-order : TakenInAnyOrder
 taken-in-any-order d S h g k j =
-    same-built (settingsIn d S h) (run d S h) (taken d S h) (settingsIn d S g) (run d S g) (taken d S g) refl refl (built d S h k) (built d S g j)
+    same-built (settingsIn d S h) (run d S h .table) (readingsOf (taken d S h)) (settingsIn d S g) (run d S g .table) (readingsOf (taken d S g)) refl refl (built d S h k) (built d S g j)
 
 pub order-does-not-matter : OrderDoesNotMatter
 order-does-not-matter d S h g k j p =

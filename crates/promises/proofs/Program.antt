@@ -7,7 +7,7 @@ use borrow.Author.Tests.{le-leb, lt-leb}
 use Rattle.whole.proofs.Tests.{T-true, T-false}
 use Rattle.lattice.specs.Refusals.{first, settings-out-of-range, program-limit}
 use Rattle.table.specs.Table.{Settings}
-use Rattle.table.specs.Calls.{ranged, fresh}
+use Rattle.table.specs.Calls.{ranged}
 use Rattle.table.specs.Sound.{Ranged}
 use Rattle.table.proofs.Soundness.{to-ranged, of-ranged}
 use Rattle.reader.specs.Items.{settingsOf, itemAt, numberOf}
@@ -15,7 +15,7 @@ use Rattle.log.specs.Loading.{load}
 use Rattle.log.proofs.Leaving.{load-settings}
 use Rattle.report.specs.Report.{most-bytes, most-log-capacity, tableText, loadedText, settingsRefusal, settledText, report}
 use Rattle.promises.specs.Refusals.{Not}
-use Rattle.promises.specs.LogRefusals.{Prints}
+use Rattle.promises.specs.LogRefusals.{memory, Prints}
 
 module _ (l : List ℕ) where
   abbrev c : Settings
@@ -45,11 +45,11 @@ module _ (l : List ℕ) where
 
   -- ---- a log with such settings is loaded
   module _ (h : length l ≤ most-bytes) (s : settingsRefusal l ≡ 0) where
-    by-load : (x : ℕ) → load l (fresh c) .number ≡ x → report l ≡ loadedText l x (load l (fresh c))
-    by-load x e = settled 0 h s ∙ ap (λ (x : ℕ). loadedText l x (load l (fresh c))) e
+    by-load : (x : ℕ) → load l (memory l) .number ≡ x → report l ≡ loadedText l x (load l (memory l))
+    by-load x e = settled 0 h s ∙ ap (λ (x : ℕ). loadedText l x (load l (memory l))) e
 
-    pub taken-whole : load l (fresh c) .number ≡ 0 → report l ≡ tableText c (load l (fresh c) .table) l
-    taken-whole e = by-load 0 e ∙ ap (λ (b : Settings). tableText b (load l (fresh c) .table) l) (load-settings l (fresh c) e)
+    pub taken-whole : load l (memory l) .number ≡ 0 → report l ≡ tableText c (load l (memory l) .booked .table) l
+    taken-whole e = by-load 0 e ∙ ap (λ (b : Settings). tableText b (load l (memory l) .booked .table) l) (load-settings l (memory l) e)
 
 pub prints : (l : List ℕ) → Prints l
 unfolding report

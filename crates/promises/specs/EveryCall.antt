@@ -3,7 +3,7 @@
 -- other; and no call asks anything. That a call ends, in an outcome that its contract allows, the checker answers for.
 use mathlib.Core.Path.{_≡_}
 use mathlib.Core.List.{List}
-use Prim.Native.Nat.{ℕ, suc, _*_, _≤_, _<_}
+use Prim.Native.Nat.{ℕ, suc, _+_, _*_, _≤_, _<_}
 use lib.IntN.{ℤ}
 use base.Logic.{emp}
 use contract.Lifetimes.{Lfts}
@@ -14,14 +14,15 @@ use denote.Triple.Clauses.{AtExit}
 use borrow.Fn.World.{World}
 use Rattle.whole.specs.Lists.{at}
 use Rattle.table.specs.Table.{Settings, Table, entry}
-use Rattle.table.specs.Calls.{lent, freshRefusal, afterFresh, enterRefusal, enter, mergeRefusal, afterMerge}
+use Rattle.book.specs.Book.{Booked}
+use Rattle.book.specs.Calls.{lentBook, freshRefusal, afterFresh, enterRefusal, enter, mergeRefusal, afterMerge, withdrawRefusal, afterWithdraw}
 use Rattle.listing.specs.Listing.{listRefusal, afterList}
 use Rattle.filter.specs.Filter.{Lent, filterRefusal, afterFilter}
 use Rattle.reader.specs.declared.Reader.{Reader}
 use Rattle.reader.specs.declared.items.Item.{Item}
 use Rattle.reader.specs.Reader.{here, movedOn}
 use Rattle.promises.specs.Contracts.{One, Answering}
-use Rattle.table.proofs.fresh.fresh as fresh-call
+use Rattle.book.proofs.fresh.fresh as fresh-call
 use Rattle.enter.proofs.enter as enter-call
 use Rattle.merge.proofs.merge as merge-call
 use Rattle.withdraw.proofs.withdraw as withdraw-call
@@ -32,6 +33,7 @@ use Rattle.report.proofs.report as report-call
 use Rattle.export.proofs.vimrothi_fresh as fresh-for-C
 use Rattle.export.proofs.vimrothi_enter as enter-for-C
 use Rattle.export.proofs.vimrothi_merge as merge-for-C
+use Rattle.export.proofs.vimrothi_withdraw as withdraw-for-C
 use Rattle.export.proofs.vimrothi_list as list-for-C
 use Rattle.export.proofs.vimrothi_filter as filter-for-C
 use Rattle.export.proofs.vimrothi_load as load-for-C
@@ -53,6 +55,7 @@ pub record EveryCallOne : Type 0 where
   pub vimrothi-fresh : Answering fresh-for-C.ended fresh-for-C.Reads.Post fresh-for-C.Reads.Learnt fresh-for-C.Reads.Asked
   pub vimrothi-enter : Answering enter-for-C.ended enter-for-C.Reads.Post enter-for-C.Reads.Learnt enter-for-C.Reads.Asked
   pub vimrothi-merge : Answering merge-for-C.ended merge-for-C.Reads.Post merge-for-C.Reads.Learnt merge-for-C.Reads.Asked
+  pub vimrothi-withdraw : Answering withdraw-for-C.ended withdraw-for-C.Reads.Post withdraw-for-C.Reads.Learnt withdraw-for-C.Reads.Asked
   pub vimrothi-list : Answering list-for-C.ended list-for-C.Reads.Post list-for-C.Reads.Learnt list-for-C.Reads.Asked
   pub vimrothi-filter : Answering filter-for-C.ended filter-for-C.Reads.Post filter-for-C.Reads.Learnt filter-for-C.Reads.Asked
   pub vimrothi-load : Answering load-for-C.ended load-for-C.Reads.Post load-for-C.Reads.Learnt load-for-C.Reads.Asked
@@ -84,13 +87,14 @@ pub record ReaderSays : Type 3 where
       → next-call.clauses (w .𝓤) (w .H) (w .𝓖 .A) (w .𝓜 .mem) (w .𝓡 .run) κs a .requires tt ≡ emp (w .𝓤)
 
 -- Statement: "A call refused as a whole hands back the head it was given and changes no lent memory. A refused fresh call hands back d, S and C as given,
--- with n and m 0." Here of the counts n and m and of memory; that d, S and C come back as given is in the contracts, by `Answers`. Of load it is `LoadRefuses`.
+-- with n and m 0." Here of the counts n and m and of memory; that d, S, C and B come back as given is in the contracts, by `AnswersBook`. Of load it is `LoadRefuses`.
 pub record RefusedLeavesAll : Type 0 where
-  pub fresh-refused : (c : Settings) (t : Table) (x : ℕ) → freshRefusal c t ≡ suc x → afterFresh c t ≡ lent (t .keys) (t .sums) (t .index)
-  pub enter-refused : (c : Settings) (t : Table) (l : List ℤ) (x : ℕ) → enterRefusal c t l ≡ suc x → enter c t l ≡ record { taken = 0; number = suc x; table = t }
-  pub merge-refused : (c : Settings) (t : Table) (b : Settings) (s : Table) (x : ℕ) → mergeRefusal c t b s ≡ suc x → afterMerge c t b s ≡ t
-  pub list-refused : (c : Settings) (t : Table) (list : List ℕ) (x : ℕ) → listRefusal c t list ≡ suc x → afterList c t list ≡ list
-  pub filter-refused : (c : Settings) (t : Table) (queries : List ℤ) (l : Lent) (x : ℕ) → filterRefusal c t queries l ≡ suc x → afterFilter c t queries l ≡ l
+  pub fresh-refused : (c : Settings) (b : Booked) (x : ℕ) → freshRefusal c b ≡ suc x → afterFresh c b ≡ lentBook b
+  pub enter-refused : (c : Settings) (b : Booked) (l : List ℤ) (x : ℕ) → enterRefusal c b l ≡ suc x → enter c b l ≡ record { taken = 0; number = suc x; booked = b }
+  pub merge-refused : (c : Settings) (b : Booked) (e : Settings) (s : Booked) (x : ℕ) → mergeRefusal c b e s ≡ suc x → afterMerge c b e s ≡ b
+  pub withdraw-refused : (c : Settings) (b : Booked) (k : ℤ) (x : ℕ) → withdrawRefusal c b k ≡ suc x → afterWithdraw c b k ≡ b
+  pub list-refused : (c : Settings) (b : Booked) (list : List ℕ) (x : ℕ) → listRefusal c b list ≡ suc x → afterList c b list ≡ list
+  pub filter-refused : (c : Settings) (b : Booked) (queries : List ℤ) (l : Lent) (x : ℕ) → filterRefusal c b queries l ≡ suc x → afterFilter c b queries l ≡ l
 
 -- What stays where the table t of settings c becomes u: keys and sums past the last point of u, the keys of the points of t, and the index places that named one of these.
 pub record LeftAlone (c : Settings) (t u : Table) : Type 0 where
@@ -100,7 +104,14 @@ pub record LeftAlone (c : Settings) (t u : Table) : Type 0 where
   pub sums-past : (i : ℕ) → 2 * u .m ≤ i → at (u .sums) i ≡ at (t .sums) i
   pub named : (p : ℕ) → 0 < entry t p → entry u p ≡ entry t p
 
--- Statement: an accepted enter and an accepted merge leave alone what `LeftAlone` says.
+-- And in the book: the entries that were there, and what stands past the last one.
+pub record BookLeftAlone (c : Settings) (b u : Booked) : Type 0 where
+  pub table : LeftAlone c (b .table) (u .table)
+  pub readings : b .table .n ≤ u .table .n
+  pub book-there : (i : ℕ) → i < (c .d + 3) * b .table .n → at (u .book) i ≡ at (b .book) i
+  pub book-past : (i : ℕ) → (c .d + 3) * u .table .n ≤ i → at (u .book) i ≡ at (b .book) i
+
+-- Statement: an accepted enter and an accepted merge leave alone what `BookLeftAlone` says.
 pub record AcceptedLeavesAlone : Type 0 where
-  pub enter-accepted : (c : Settings) (t : Table) (l : List ℤ) → enterRefusal c t l ≡ 0 → LeftAlone c t (enter c t l .table)
-  pub merge-accepted : (c : Settings) (t : Table) (b : Settings) (s : Table) → mergeRefusal c t b s ≡ 0 → LeftAlone c t (afterMerge c t b s)
+  pub enter-accepted : (c : Settings) (b : Booked) (l : List ℤ) → enterRefusal c b l ≡ 0 → BookLeftAlone c b (enter c b l .booked)
+  pub merge-accepted : (c : Settings) (b : Booked) (e : Settings) (s : Booked) → mergeRefusal c b e s ≡ 0 → BookLeftAlone c b (afterMerge c b e s)

@@ -13,9 +13,12 @@ use Rattle.lattice.specs.Lattice.{Point}
 use Rattle.lattice.specs.Weight.{weight}
 use Rattle.table.specs.Table.{Settings, Table, keysOf, found, held}
 use Rattle.table.specs.Pour.{news}
-use Rattle.table.specs.Reading.{Reading, shares, refusal, entered}
+use Rattle.table.specs.Reading.{Reading, shares, entered}
 use Rattle.table.specs.Theorems.{plus}
 use Rattle.table.specs.Sound.{Fine}
+use Rattle.book.specs.Book.{Numbered, Booked}
+use Rattle.book.specs.Calls.{refusal}
+use Rattle.book.specs.Theorems.{FineBook}
 use Rattle.blur.specs.Blur.{plusStep, minusStep, isStored, massAfter, valueAfter, blurredMass, blurredValue}
 use Rattle.blur.specs.Sheet.{withSums, blurredSheet}
 use Rattle.filter.specs.Answer.{weighted, code, answer}
@@ -32,7 +35,7 @@ pub record Entered (c : Settings) (t : Table) (r : Reading) : Type 0 where
   pub points : entered c t r .m ≡ t .m + news c t (keysOf (shares (c .d) (c .S) r))
 
 abbrev pub EntersEachReading : Type 0
-EntersEachReading = (c : Settings) (t : Table) (r : Reading) → length (r .position) ≡ suc (c .d) → Fine c t → refusal c t r ≡ 0 → Entered c t r
+EntersEachReading = (c : Settings) (b : Booked) (e : Numbered) → length (e .reading .position) ≡ suc (c .d) → FineBook c b → refusal c b e ≡ 0 → Entered c (b .table) (e .reading)
 
 -- "Each stored point's new pair is its old pair twice, plus the old pairs at point plus step and at point minus step; a neighbour that is not stored
 -- counts as 0.": pass k of one of the two numbers of each point, f before it and g after it

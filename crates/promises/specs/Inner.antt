@@ -14,15 +14,22 @@ use Rattle.index.proofs.search.search
 use Rattle.table.proofs.settings.in_range
 use Rattle.table.proofs.settings.lengths_fit
 use Rattle.table.proofs.with_counts
-use Rattle.table.proofs.fresh.clear_sums
-use Rattle.table.proofs.fresh.clear_index
+use Rattle.table.proofs.clear.clear_keys
+use Rattle.table.proofs.clear.clear_sums
+use Rattle.table.proofs.clear.clear_index
 use Rattle.table.proofs.reading.own_refusal
+use Rattle.book.proofs.settings.in_range as book-in-range
+use Rattle.book.proofs.settings.lengths_fit as book-lengths-fit
+use Rattle.book.proofs.writing.write_at
+use Rattle.book.proofs.writing.put_entry
 use Rattle.soundness.proofs.is_sound
-use Rattle.soundness.proofs.refusal_of
 use Rattle.numbers.proofs.place_of
+use Rattle.numbers.proofs.is_held
 use Rattle.numbers.proofs.add_number
 use Rattle.numbers.proofs.index_book
 use Rattle.numbers.proofs.numbers_apart
+use Rattle.numbers.proofs.none_met
+use Rattle.numbers.proofs.lowest_from
 use Rattle.pour.proofs.add_row
 use Rattle.pour.proofs.is_new
 use Rattle.pour.proofs.pair.set_pair
@@ -34,7 +41,8 @@ use Rattle.shares.proofs.times
 use Rattle.shares.proofs.pour_shares
 use Rattle.spread.proofs.spread_reading
 use Rattle.spread.proofs.sums_are_theirs
-use Rattle.carried.proofs.refusal_of as carried-refusal-of
+use Rattle.carried.proofs.is_carried
+use Rattle.carried.proofs.refusal_of
 use Rattle.enter.proofs.reading.take
 use Rattle.enter.proofs.reading.enter_one
 use Rattle.listing.proofs.fill.fill
@@ -73,15 +81,22 @@ pub record InnerOnly : Type 0 where
   pub in-range : OnlyOutcome in_range.ended in_range.Reads.Learnt
   pub lengths-fit : OnlyOutcome lengths_fit.ended lengths_fit.Reads.Learnt
   pub with-counts : OnlyOutcome with_counts.ended with_counts.Reads.Learnt
+  pub clear-keys : OnlyOutcome clear_keys.ended clear_keys.Reads.Learnt
   pub clear-sums : OnlyOutcome clear_sums.ended clear_sums.Reads.Learnt
   pub clear-index : OnlyOutcome clear_index.ended clear_index.Reads.Learnt
   pub own-refusal : OnlyOutcome own_refusal.ended own_refusal.Reads.Learnt
+  pub book-range : OnlyOutcome book-in-range.ended book-in-range.Reads.Learnt
+  pub book-lengths : OnlyOutcome book-lengths-fit.ended book-lengths-fit.Reads.Learnt
+  pub write-at : OnlyOutcome write_at.ended write_at.Reads.Learnt
+  pub put-entry : OnlyOutcome put_entry.ended put_entry.Reads.Learnt
   pub is-sound : OnlyOutcome is_sound.ended is_sound.Reads.Learnt
-  pub refusal-of : OnlyOutcome refusal_of.ended refusal_of.Reads.Learnt
   pub place-of : OnlyOutcome place_of.ended place_of.Reads.Learnt
+  pub is-held : OnlyOutcome is_held.ended is_held.Reads.Learnt
   pub add-number : OnlyOutcome add_number.ended add_number.Reads.Learnt
   pub index-book : OnlyOutcome index_book.ended index_book.Reads.Learnt
   pub numbers-apart : OnlyOutcome numbers_apart.ended numbers_apart.Reads.Learnt
+  pub none-met : OnlyOutcome none_met.ended none_met.Reads.Learnt
+  pub lowest-from : OnlyOutcome lowest_from.ended lowest_from.Reads.Learnt
   pub add-row : OnlyOutcome add_row.ended add_row.Reads.Learnt
   pub is-new : OnlyOutcome is_new.ended is_new.Reads.Learnt
   pub set-pair : OnlyOutcome set_pair.ended set_pair.Reads.Learnt
@@ -93,7 +108,8 @@ pub record InnerOnly : Type 0 where
   pub pour-shares : OnlyOutcome pour_shares.ended pour_shares.Reads.Learnt
   pub spread-reading : OnlyOutcome spread_reading.ended spread_reading.Reads.Learnt
   pub sums-are-theirs : OnlyOutcome sums_are_theirs.ended sums_are_theirs.Reads.Learnt
-  pub carried-refusal : OnlyOutcome carried-refusal-of.ended carried-refusal-of.Reads.Learnt
+  pub is-carried : OnlyOutcome is_carried.ended is_carried.Reads.Learnt
+  pub refusal-of : OnlyOutcome refusal_of.ended refusal_of.Reads.Learnt
   pub take : OnlyOutcome take.ended take.Reads.Learnt
   pub enter-one : OnlyOutcome enter_one.ended enter_one.Reads.Learnt
   pub fill : OnlyOutcome fill.ended fill.Reads.Learnt

@@ -1,5 +1,5 @@
 -- Demand 3: "Order does not matter: any order, any sharing among merged tables, gives the same sorted listing, total and answers, and an answer lies
--- between the least and the greatest value entered."
+-- between the least and the greatest value entered." With document 02: "Demand 3 … read over the readings entered and not withdrawn".
 use mathlib.Core.Path.{_≡_}
 use mathlib.Core.List.{List, [], map, Perm}
 use Prim.Native.Nat.{ℕ, _*_, _-_, _<_}
@@ -15,6 +15,8 @@ use Rattle.lattice.specs.Weight.{W, least, greatest}
 use Rattle.table.specs.Table.{Settings, Table, Row, whole, massOf}
 use Rattle.table.specs.Reading.{Reading, massFrom, valueFrom}
 use Rattle.table.specs.Sound.{Fine}
+use Rattle.book.specs.Book.{readingsOf}
+use Rattle.book.specs.Theorems.{Holds}
 use Rattle.listing.specs.Order.{precedes}
 use Rattle.listing.specs.Listing.{listed}
 use Rattle.filter.specs.Answer.{code, answer}
@@ -59,9 +61,14 @@ pub record MadeOf (d S : ℕ) (rs : List Reading) (c : Settings) (t : Table) : T
   -- and "an answer lies between the least and the greatest value entered".
   pub between : (q : List ℤ) → code c t q ≡ 0 → Within (leastIn rs) (greatestIn rs) (answer c t q)
 
--- Statement: every table that was begun is made of the readings that its calls took, whatever was refused on the way.
+-- Statement: every table that was begun is sound with its book, and the book holds the readings that its calls took and that were not taken back, "in order
+-- of entry, merged ones behind".
+abbrev pub BookIsTaken : Type 0
+BookIsTaken = (d S : ℕ) (h : History) → Begun d S h → Holds (settingsIn d S h) (run d S h) (taken d S h)
+
+-- Statement: so it is made of these readings, whatever was refused on the way.
 abbrev pub MadeOfThoseTaken : Type 0
-MadeOfThoseTaken = (d S : ℕ) (h : History) → Begun d S h → MadeOf d S (taken d S h) (settingsIn d S h) (run d S h)
+MadeOfThoseTaken = (d S : ℕ) (h : History) → Begun d S h → MadeOf d S (readingsOf (taken d S h)) (settingsIn d S h) (run d S h .table)
 
 -- Statement: where no call was refused, these are all of its readings.
 abbrev pub AllTaken : Type 0
@@ -76,12 +83,12 @@ pub record Same (c : Settings) (t : Table) (b : Settings) (s : Table) : Type 0 w
   pub same-value-total : over (listed c t) (λ r. r .value) ≡ over (listed b s) (λ r. r .value)
   pub same-answers : (q : List ℤ) → SameAnswer c t b s q
 
--- Statement: "any order, any sharing among merged tables", of two histories that took the same readings.
+-- Statement: "any order, any sharing among merged tables", of two histories that took the same readings and did not take them back, under whatever numbers.
 abbrev pub TakenInAnyOrder : Type 0
-TakenInAnyOrder = (d S : ℕ) (h g : History) → Begun d S h → Begun d S g → Perm (taken d S h) (taken d S g)
-    → Same (settingsIn d S h) (run d S h) (settingsIn d S g) (run d S g)
+TakenInAnyOrder = (d S : ℕ) (h g : History) → Begun d S h → Begun d S g → Perm (readingsOf (taken d S h)) (readingsOf (taken d S g))
+    → Same (settingsIn d S h) (run d S h .table) (settingsIn d S g) (run d S g .table)
 
 -- Statement: the same of two histories in which no call was refused, of all their readings.
 abbrev pub OrderDoesNotMatter : Type 0
-OrderDoesNotMatter = (d S : ℕ) (h g : History) → NoneRefused d S h → NoneRefused d S g → Perm (readings d h) (readings d g)
-    → Same (settingsIn d S h) (run d S h) (settingsIn d S g) (run d S g)
+OrderDoesNotMatter = (d S : ℕ) (h g : History) → NoneRefused d S h → NoneRefused d S g → Perm (readingsOf (readings d h)) (readingsOf (readings d g))
+    → Same (settingsIn d S h) (run d S h .table) (settingsIn d S g) (run d S g .table)

@@ -12,7 +12,8 @@ use Rattle.whole.specs.Lists.{collect}
 use Rattle.lattice.specs.Limits.{most-d}
 use Rattle.lattice.specs.Refusals.{program-limit}
 use Rattle.table.specs.Table.{Settings, Table}
-use Rattle.table.specs.Calls.{fresh}
+use Rattle.book.specs.Book.{Booked}
+use Rattle.book.specs.Calls.{freshBooked}
 use Rattle.listing.specs.Listing.{order}
 use Rattle.filter.specs.Answer.{code, answer}
 use Rattle.text.proofs.Theorems.{line-fits}
@@ -22,7 +23,7 @@ use Rattle.reader.specs.Walk.{Walk, then, ends, walk, queriesIn, queries}
 use Rattle.log.specs.Loading.{load}
 use Rattle.reader.proofs.Walking.{query-count}
 use Rattle.log.proofs.Leaving.{load-settings, load-fine}
-use Rattle.report.specs.Report.{most-bytes, most-log-capacity, head-word, point-word, answer-word, refused-word, headLine, pointNumbers, pointLine, pointLines, answerLine, queryText, perQuery, tableText, refusedLine, loadedText, settingsRefusal, settledText, report, room}
+use Rattle.report.specs.Report.{most-bytes, most-log-capacity, book-room, head-word, point-word, answer-word, refused-word, headLine, pointNumbers, pointLine, pointLines, answerLine, queryText, perQuery, tableText, refusedLine, loadedText, settingsRefusal, settledText, report, room}
 use Rattle.report.specs.Inner.{Printable}
 use Rattle.report.proofs.Settling.{few-points}
 use Rattle.report.proofs.Numbers.{numbers-size}
@@ -79,18 +80,18 @@ table-fits c t l h P =
     )
 
 -- ---- a log that is loaded into slices of any lengths
-abbrev pub textIn : List ℕ → Table → List ℕ
-textIn l t = loadedText l (load l t .number) (load l t)
+abbrev pub textIn : List ℕ → Booked → List ℕ
+textIn l b = loadedText l (load l b .number) (load l b)
 
-pub loaded-fits : (l : List ℕ) (t : Table) → length l ≤ most-bytes → settingsOf l .C ≤ most-log-capacity → length (textIn l t) ≤ room
-loaded-fits l t h k = go (load l t .number) refl
+pub loaded-fits : (l : List ℕ) (b : Booked) → length l ≤ most-bytes → settingsOf l .C ≤ most-log-capacity → length (textIn l b) ≤ room
+loaded-fits l b h k = go (load l b .number) refl
   where
-    go : (x : ℕ) → load l t .number ≡ x → length (loadedText l x (load l t)) ≤ room
+    go : (x : ℕ) → load l b .number ≡ x → length (loadedText l x (load l b)) ≤ room
     go zero e =
-        let o = load l t in
-        subst (λ (c : Settings). length (tableText c (o .table) l) ≤ room) (sym (load-settings l t e))
-        (table-fits (settingsOf l) (o .table) l h (record { fine = load-fine l t e; few = k }))
-    go (suc x) e = omega (arith, refused-fits (suc x) (load l t .offset))
+        let o = load l b in
+        subst (λ (c : Settings). length (tableText c (o .booked .table) l) ≤ room) (sym (load-settings l b e))
+        (table-fits (settingsOf l) (o .booked .table) l h (record { fine = load-fine l b e .fine; few = k }))
+    go (suc x) e = omega (arith, refused-fits (suc x) (load l b .offset))
 
 -- ---- a log
 pub report-fits : (l : List ℕ) → length (report l) ≤ room
@@ -98,7 +99,7 @@ unfolding report
 report-fits l = go (leb (length l) most-bytes) refl
   where
     settled : length l ≤ most-bytes → (x : ℕ) → settingsRefusal l ≡ x → length (settledText x l) ≤ room
-    settled h zero e = loaded-fits l (fresh (settingsOf l)) h (few-points l e)
+    settled h zero e = loaded-fits l (freshBooked (settingsOf l) book-room) h (few-points l e)
     settled h (suc x) e = omega (arith, refused-fits (suc x) 0)
 
     go : (b : Bool) → leb (length l) most-bytes ≡ b → length (cond b (settledText (settingsRefusal l) l) (refusedLine program-limit most-bytes)) ≤ room

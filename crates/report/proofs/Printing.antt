@@ -13,6 +13,8 @@ use Rattle.table.specs.Table.{Settings, Table}
 use Rattle.table.specs.Calls.{lent, fresh}
 use Rattle.table.specs.Heads.{settings, table, headOf}
 use Rattle.table.specs.Sound.{Fine}
+use Rattle.book.specs.Book.{Booked}
+use Rattle.book.specs.Calls.{freshBooked}
 use Rattle.text.specs.Text.{Written}
 use Rattle.text.proofs.Lines.{written-then, written-room}
 use Rattle.reader.specs.Items.{after-settings, settingsOf}
@@ -20,7 +22,7 @@ use Rattle.reader.specs.Walk.{walk}
 use Rattle.log.specs.Loading.{Load, load, Loads}
 use Rattle.table.proofs.Calls.{answered}
 use Rattle.log.proofs.Leaving.{load-offset, load-settings, load-fine}
-use Rattle.report.specs.Report.{most-log-capacity, headLine, pointLines, answerLines, refusedLine, tableText, loadedText, settledText}
+use Rattle.report.specs.Report.{most-log-capacity, book-room, headLine, pointLines, answerLines, refusedLine, tableText, loadedText, settledText}
 use Rattle.report.specs.Inner.{countsLine, HeadRoom, RefusedRoom, PointsRoom, AnswersRoom, TableRoom, LentFor, Settled}
 use Rattle.report.proofs.Fitting.{textIn, loaded-fits}
 
@@ -64,91 +66,98 @@ refused-text : (l : List ℕ) (x : ℕ) (o : Load) → (x ≡ 0 → ⊥) → loa
 refused-text l zero o z = absurd (z refl)
 refused-text l (suc x) o z = refl
 
-module _ (l : List ℕ) (t : Table) {number offset : ℕ} {head : Head} {keys sums : List ℤ} {index : List ℕ}
-    (A : Loads (headOf (load l t .settings)) (load l t) number offset head keys sums index) where
+module _ (l : List ℕ) (b : Booked) {number offset : ℕ} {head : Head} {keys sums : List ℤ} {index : List ℕ} {book : List ℤ}
+    (A : Loads (headOf (load l b .settings) (load l b .booked .room)) (load l b) number offset head keys sums index book) where
   abbrev left : Table
   left = table head keys sums index
 
-  settings-left : settings head ≡ load l t .settings
-  settings-left = ap settings (A .answers .head-is)
+  settings-left : settings head ≡ load l b .settings
+  settings-left = ap settings (A .answers .answers .head-is)
 
-  table-left : left ≡ load l t .table
-  table-left = answered (A .answers)
+  table-left : left ≡ load l b .booked .table
+  table-left = answered (A .answers .answers)
 
   -- it is refused
   module _ (z : number ≡ 0 → ⊥) where
-    text-refused : textIn l t ≡ refusedLine number offset
+    text-refused : textIn l b ≡ refusedLine number offset
     text-refused =
-        refused-text l (load l t .number) (load l t) (λ y. z (A .answers .number-is ∙ y)) ∙ ap₂ refusedLine (sym (A .answers .number-is)) (sym (A .offset-is))
+        refused-text l (load l b .number) (load l b) (λ y. z (A .answers .answers .number-is ∙ y)) ∙ ap₂ refusedLine (sym (A .answers .answers .number-is)) (sym (A .offset-is))
 
-    pub refused-room : {size : ℕ} → LentFor l t size → RefusedRoom number offset size
+    pub refused-room : {size : ℕ} → LentFor l b size → RefusedRoom number offset size
     refused-room G = record {
-      offset-most = omega (arith, A .offset-is, load-offset l t, G .taken .short);
+      offset-most = omega (arith, A .offset-is, load-offset l b, G .taken .short);
       space = rw text-refused at (G .space);
     }
 
-    pub refused-written : {o o′ : List ℕ} {n : ℕ} → Written o 0 (refusedLine number offset) n o′ → Written o 0 (textIn l t) n o′
+    pub refused-written : {o o′ : List ℕ} {n : ℕ} → Written o 0 (refusedLine number offset) n o′ → Written o 0 (textIn l b) n o′
     refused-written w = rw text-refused w
 
   -- it is taken whole
   module _ (z : number ≡ 0) where
-    none : load l t .number ≡ 0
-    none = sym (A .answers .number-is) ∙ z
+    none : load l b .number ≡ 0
+    none = sym (A .answers .answers .number-is) ∙ z
 
     same : settings head ≡ settingsOf l
-    same = settings-left ∙ load-settings l t none
+    same = settings-left ∙ load-settings l b none
 
-    text-taken : textIn l t ≡ tableText (settings head) left l
-    text-taken = ap (λ (x : ℕ). loadedText l x (load l t)) none ∙ ap₂ (λ (c : Settings) (t : Table). tableText c t l) (sym settings-left) (sym table-left)
+    text-taken : textIn l b ≡ tableText (settings head) left l
+    text-taken = ap (λ (x : ℕ). loadedText l x (load l b)) none ∙ ap₂ (λ (c : Settings) (t : Table). tableText c t l) (sym settings-left) (sym table-left)
 
-    pub table-room : {size : ℕ} → LentFor l t size → TableRoom (settings head) left l size
+    pub table-room : {size : ℕ} → LentFor l b size → TableRoom (settings head) left l size
     table-room G = record {
       printable = record {
-        fine = subst (λ (c : Settings). Fine c left) (sym same) (subst (Fine (settingsOf l)) (sym table-left) (load-fine l t none));
+        fine = subst (λ (c : Settings). Fine c left) (sym same) (subst (Fine (settingsOf l)) (sym table-left) (load-fine l b none .fine));
         few = subst (λ (c : Settings). c .C ≤ most-log-capacity) (sym same) (G .taken .few);
       };
       settings-are = same;
       space = rw text-taken at (G .space);
     }
 
-    pub taken-written : {o o′ : List ℕ} {n : ℕ} → Written o 0 (tableText (settings head) left l) n o′ → Written o 0 (textIn l t) n o′
+    pub taken-written : {o o′ : List ℕ} {n : ℕ} → Written o 0 (tableText (settings head) left l) n o′ → Written o 0 (textIn l b) n o′
     taken-written w = rw text-taken w
 
--- ---- the program's own memory, all 0: of d·C, 2·C and 2·C places
+-- ---- the program's own memory, all 0: of d·C, 2·C and 2·C places, and of 2,048 entries
 zeros : {A : Type 0} (k n : ℕ) (z : A) → k ≤ n → take (k - 0) (replicate n z) ≡ replicate k z
 zeros k n z h =
     let p : k - 0 ≡ k = omega arith in
     let q : n ≡ k + (n - k) = omega arith in
     rw (p, q, ← replicate-append-replicate) (take-at (replicate k z) (replicate (n - k) z) k (length-replicate k z))
 
-abbrev memory : ℕ → ℕ → Table
-memory d C = lent (take (d * C - 0) (replicate 2560 (pos 0))) (take (2 * C - 0) (replicate 1024 (pos 0))) (take (2 * C - 0) (replicate 1024 0))
+abbrev memory : ℕ → ℕ → Booked
+memory d C = record {
+  table = lent (take (d * C - 0) (replicate 2560 (pos 0))) (take (2 * C - 0) (replicate 1024 (pos 0))) (take (2 * C - 0) (replicate 1024 0));
+  room = book-room;
+  book = take ((d + 3) * book-room - 0) (replicate 16384 (pos 0));
+}
 
 module _ (l : List ℕ) (d C size : ℕ) (S : Settled l d C size) where
-  pub kept-most : d * C ≤ 2560
-  kept-most =
-      let T = S .taken in
-      let p : d ≤ most-d = omega (arith, S .d-is, T .ranged .d-most) in
-      let q : C ≤ most-log-capacity = omega (arith, S .capacity-is, T .few) in
-      mul-le-mul p q
+  d-small : d ≤ most-d
+  d-small = omega (arith, S .d-is, S .taken .ranged .d-most)
 
-  memory-fresh : memory d C ≡ fresh (settingsOf l)
-  unfolding fresh
+  pub kept-most : d * C ≤ 2560
+  kept-most = let q : C ≤ most-log-capacity = omega (arith, S .capacity-is, S .taken .few) in mul-le-mul d-small q
+
+  entries-most : (d + 3) * book-room ≤ 16384
+  entries-most = let p = d-small in omega arith
+
+  memory-fresh : memory d C ≡ freshBooked (settingsOf l) book-room
+  unfolding fresh freshBooked
   memory-fresh =
       let q : 2 * C ≤ 1024 = omega (arith, S .capacity-is, S .taken .few) in
       let keys = zeros (d * C) 2560 (pos 0) kept-most ∙ ap₂ (λ (d C : ℕ). replicate (d * C) (pos 0)) (S .d-is) (S .capacity-is) in
       let sums = zeros (2 * C) 1024 (pos 0) q ∙ ap (λ (C : ℕ). replicate (2 * C) (pos 0)) (S .capacity-is) in
       let index = zeros {A = ℕ} (2 * C) 1024 0 q ∙ ap (λ (C : ℕ). replicate {A = ℕ} (2 * C) 0) (S .capacity-is) in
-      λ j. record { n = 0; m = 0; keys = keys j; sums = sums j; index = index j }
+      let book = zeros ((d + 3) * book-room) 16384 (pos 0) entries-most ∙ ap (λ (d : ℕ). replicate ((d + 3) * book-room) (pos 0)) (S .d-is) in
+      λ j. record { table = record { n = 0; m = 0; keys = keys j; sums = sums j; index = index j }; room = book-room; book = book j }
 
   pub lent-room : LentFor l (memory d C) size
   lent-room =
       let c = settingsOf l in
       let T = S .taken in
-      subst (λ (t : Table). LentFor l t size) (sym memory-fresh) (record {
+      subst (λ (b : Booked). LentFor l b size) (sym memory-fresh) (record {
         taken = T;
-        space = omega (arith, loaded-fits l (fresh c) (T .short) (T .few), S .space);
+        space = omega (arith, loaded-fits l (freshBooked c book-room) (T .short) (T .few), S .space);
       })
 
   pub log-written : {o o′ : List ℕ} {n : ℕ} → Written o 0 (textIn l (memory d C)) n o′ → Written o 0 (settledText 0 l) n o′
-  log-written {o} {o′} {n} w = subst (λ (t : Table). Written o 0 (textIn l t) n o′) memory-fresh w
+  log-written {o} {o′} {n} w = subst (λ (b : Booked). Written o 0 (textIn l b) n o′) memory-fresh w

@@ -13,8 +13,11 @@ use Rattle.index.specs.Keys.{same, keyAt, hash, home}
 use Rattle.index.specs.Search.{walk as sequence, search as sought}
 use Rattle.table.specs.Table.{whole}
 use Rattle.table.specs.Pour.{setPair, append, raise, pour, newsIn}
-use Rattle.table.specs.Reading.{shares, refusal}
-use Rattle.table.specs.Calls.{ranged, fits, fresh, freshRefusal}
+use Rattle.table.specs.Reading.{shares}
+use Rattle.table.specs.Calls.{ranged, fits, fresh}
+use Rattle.book.specs.Book.{among}
+use Rattle.book.specs.Numbers.{lowestFrom}
+use Rattle.book.specs.Calls.{freshRefusal, freshBooked, refusal}
 use Rattle.listing.specs.Order.{precedes, insert, ordered}
 use Rattle.listing.specs.Listing.{order}
 use Rattle.blur.specs.Blur.{step, plusStep, minusStep, pass, passes, massAfter, valueAfter}
@@ -30,5 +33,5 @@ use Rattle.report.specs.Report.{pointLines, perQuery, settingsRefusal, r
 use Rattle.report.specs.Worked.{ReportCases}
 
 pub report-cases : ReportCases
-unfolding floor remainder rounded sum over all tab collect word first allNear sumsToZero best spread weight corner lastOf points same keyAt hash home sequence sought whole setPair append raise pour newsIn shares refusal ranged fits fresh freshRefusal precedes insert ordered order step plusStep minusStep pass passes massAfter valueAfter weighted meets codeBy valueBy little signed numbersIn kindIn total formRefusal itemAt saidAt walk walkFrom loadWalk load digitsIn decimal spaced line pointLines perQuery settingsRefusal report
-report-cases = record { five-lines = refl; queries-first = refl; cut-short = refl; too-wide = refl }
+unfolding floor remainder rounded sum over all tab collect word first allNear sumsToZero best spread weight corner lastOf points same keyAt hash home sequence sought whole setPair append raise pour newsIn shares ranged fits fresh among lowestFrom freshRefusal freshBooked refusal precedes insert ordered order step plusStep minusStep pass passes massAfter valueAfter weighted meets codeBy valueBy little signed numbersIn kindIn total formRefusal itemAt saidAt walk walkFrom loadWalk load digitsIn decimal spaced line pointLines perQuery settingsRefusal report
+report-cases = record { five-lines = refl; queries-first = refl; numbered-too = refl; cut-short = refl; held-already = refl; too-wide = refl }

@@ -18,6 +18,7 @@ use Rattle.text.specs.Text.{line}
 use Rattle.reader.specs.Items.{settingsOf, itemAt}
 use Rattle.reader.specs.Content.{saidAt}
 use Rattle.reader.specs.Walk.{items}
+use Rattle.book.specs.Book.{Booked}
 use Rattle.log.specs.Loading.{load}
 use Rattle.reader.specs.declared.items.Item.{Item}
 use Rattle.reader.specs.declared.items.Item.the-variants.{Of, End, Refused}
@@ -137,10 +138,10 @@ pub record Taken (l : List ℕ) : Type 0 where
   pub ranged : Ranged (settingsOf l)
   pub few : settingsOf l .C ≤ most-log-capacity
 
--- a log that the program takes, and room for what is printed where it is loaded into the memory of t
-pub record LentFor (l : List ℕ) (t : Table) (size : ℕ) : Type 0 where
+-- a log that the program takes, and room for what is printed where it is loaded into the memory of b
+pub record LentFor (l : List ℕ) (b : Booked) (size : ℕ) : Type 0 where
   pub taken : Taken l
-  pub space : length (loadedText l (load l t .number) (load l t)) ≤ size
+  pub space : length (loadedText l (load l b .number) (load l b)) ≤ size
 
 -- these settings, and a buffer that suffices
 pub record Settled (l : List ℕ) (d capacity size : ℕ) : Type 0 where

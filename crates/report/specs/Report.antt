@@ -9,7 +9,8 @@ use lib.ListN.{length, getD}
 use Rattle.whole.specs.Lists.{collect, splice}
 use Rattle.lattice.specs.Refusals.{first, settings-out-of-range, program-limit}
 use Rattle.table.specs.Table.{Settings, Table, key, mass, value, whole}
-use Rattle.table.specs.Calls.{ranged, fresh}
+use Rattle.table.specs.Calls.{ranged}
+use Rattle.book.specs.Calls.{freshBooked}
 use Rattle.listing.specs.Listing.{order}
 use Rattle.filter.specs.Answer.{code, answer}
 use Rattle.reader.specs.Items.{settingsOf, itemAt, numberOf}
@@ -82,7 +83,7 @@ tableText c t l = headLine c t ++ (pointLines c t ++ answerLines c t (items l))
 
 -- a log that is loaded: its table, or the one line
 abbrev pub loadedText : List ℕ → ℕ → Load → List ℕ
-loadedText l zero o = tableText (o .settings) (o .table) l
+loadedText l zero o = tableText (o .settings) (o .booked .table) l
 loadedText l (suc x) o = refusedLine (suc x) (o .offset)
 
 -- "capacity once settings are read and pass 1 (16 at offset 0)"
@@ -90,9 +91,13 @@ unfoldable pub settingsRefusal : List ℕ → ℕ
 settingsRefusal l = let c = settingsOf l in
     orElse (numberOf (itemAt l 0)) (first ((ranged c, settings-out-of-range) ∷ (leb (c .C) most-log-capacity, program-limit) ∷ []))
 
--- a log whose settings have the number x; the slices that it is loaded into have the lengths that its settings give
+-- "room B … (… `dyemap`: 2,048)"
+abbrev pub book-room : ℕ
+book-room = 2048
+
+-- a log whose settings have the number x; the slices that it is loaded into have the lengths that its settings and this room give
 abbrev pub settledText : ℕ → List ℕ → List ℕ
-settledText zero l = let o = load l (fresh (settingsOf l)) in loadedText l (o .number) o
+settledText zero l = let o = load l (freshBooked (settingsOf l) book-room) in loadedText l (o .number) o
 settledText (suc x) l = refusedLine (suc x) 0
 
 -- "Length is tested first (16 at offset 16384)"

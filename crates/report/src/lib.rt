@@ -2,10 +2,11 @@
 // specs/; that a buffer of ROOM bytes suffices for every log, in proofs/.
 ghost use lib.ListN.{length};
 ghost use Rattle.table.specs.Calls.{lent};
-ghost use Rattle.table.specs.Heads.{lentIn, settings, table, tableIn};
+ghost use Rattle.table.specs.Heads.{settings, table, tableIn};
+ghost use Rattle.book.specs.Heads.{lentIn};
 ghost use Rattle.text.specs.Text.{Written};
 ghost use Rattle.log.specs.Loading.{load};
-ghost use Rattle.report.specs.Report.{Reports, tableText, loadedText, settledText};
+ghost use Rattle.report.specs.Report.{book-room, Reports, tableText, loadedText, settledText};
 ghost use Rattle.report.specs.Inner.{TableRoom, LentFor, Settled};
 
 mod answers;
@@ -27,6 +28,9 @@ use table::Head;
 pub const MOST_BYTES: usize = 16384;
 
 pub const MOST_LOG_CAPACITY: usize = 512;
+
+// The book of the program's table has room for so many readings: more than a log of MOST_BYTES has.
+pub const BOOK_ROOM: usize = 2048;
 
 // A buffer of so many bytes suffices for the report of every log.
 pub const ROOM: usize = 200000;
@@ -59,14 +63,15 @@ fn put_loaded(
     keys: &mut [i32],
     sums: &mut [i64],
     index: &mut [u16],
+    book: &mut [i32],
 ) -> usize
-    requires { ⌜ LentFor (now log) (lent (now keys) (now sums) (now index)) (length (now out)) ⌝ }
+    requires { ⌜ LentFor (now log) (record { table = lent (now keys) (now sums) (now index); room = book-room; book = now book }) (length (now out)) ⌝ }
     ensures { λ r. ⌜
-        (let o = load (now (log .entry)) (lentIn keys sums index) in
+        (let o = load (now (log .entry)) (lentIn book-room keys sums index book) in
         Written (now (out .entry)) 0 (loadedText (now (log .entry)) (o .number) o) r (now (out .exit)))
         ⌝ }
 {
-    let loaded = load(log, keys, sums, index);
+    let loaded = load(log, BOOK_ROOM, keys, sums, index, book);
     if loaded.number != 0 {
         return put_refused(out, loaded.number, loaded.offset);
     }
@@ -81,14 +86,17 @@ fn put_log(out: &mut [u8], log: &[u8], d: usize, capacity: usize) -> usize
     let mut keys = [0i32; MOST_D * MOST_LOG_CAPACITY];
     let mut sums = [0i64; 2 * MOST_LOG_CAPACITY];
     let mut index = [0u16; 2 * MOST_LOG_CAPACITY];
+    let mut book = [0i32; (MOST_D + 3) * BOOK_ROOM];
     let kept = d * capacity;
     let places = 2 * capacity;
+    let entries = (d + 3) * BOOK_ROOM;
     put_loaded(
         out,
         log,
         &mut keys[0..kept],
         &mut sums[0..places],
         &mut index[0..places],
+        &mut book[0..entries],
     )
 }
 

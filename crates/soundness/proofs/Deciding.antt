@@ -7,13 +7,11 @@ use native.Mathlib.Omega.{arith}
 use lib.ListN.{length}
 use borrow.Author.Tests.{le-leb, lt-leb}
 use Rattle.lattice.specs.Limits.{most-readings}
-use Rattle.lattice.specs.Refusals.{first, settings-out-of-range, other-length, not-sound}
 use Rattle.lattice.specs.Weight.{W}
 use Rattle.index.specs.Indexed.{sparse, finding}
 use Rattle.index.proofs.Finding.{to-sparse}
 use Rattle.table.specs.Table.{Settings, Table, key, entry}
 use Rattle.table.specs.Sound.{sound, indexed, Ranged, Shape}
-use Rattle.table.specs.Calls.{ranged, fits, callRefusal}
 use Rattle.table.proofs.Refusals.{T-of}
 use Rattle.table.proofs.Soundness.{table-searched}
 use Rattle.soundness.specs.Inner.{goodRows, Findable, Rows}
@@ -66,24 +64,3 @@ module _ (c : Settings) (t : Table) where
     pub by-rows : {r : Bool} {total : ℕ} → thin ≡ true → found ≡ true → total ≡ W (c .d) (c .S) * t .n → r ≡ goodRows total (c .d) (t .m) (t .keys) (t .sums) → r ≡ sound c t
     unfolding sound indexed goodRows
     by-rows e f o g = g ∙ ap (λ (n : ℕ). goodRows n (c .d) (t .m) (t .keys) (t .sums)) o ∙ sym (rw (le-leb (t .m) (c .C) m, le-leb (t .n) most-readings n, e, f) refl)
-
-  module _ (more : Bool) where
-    pub call-one : ranged c ≡ false → settings-out-of-range ≡ callRefusal c t more
-    unfolding callRefusal first
-    call-one e = sym (rw e refl)
-
-    pub call-two : ranged c ≡ true → fits c t ≡ false → other-length ≡ callRefusal c t more
-    unfolding callRefusal first
-    call-two e f = sym (rw (e, f) refl)
-
-    pub call-more : ranged c ≡ true → fits c t ≡ true → more ≡ false → other-length ≡ callRefusal c t more
-    unfolding callRefusal first
-    call-more e f g = sym (rw (e, f, g) refl)
-
-    pub call-three : ranged c ≡ true → fits c t ≡ true → more ≡ true → sound c t ≡ false → not-sound ≡ callRefusal c t more
-    unfolding callRefusal first
-    call-three e f g h = sym (rw (e, f, g, h) refl)
-
-    pub call-none : ranged c ≡ true → fits c t ≡ true → more ≡ true → sound c t ≡ true → 0 ≡ callRefusal c t more
-    unfolding callRefusal first
-    call-none e f g h = sym (rw (e, f, g, h) refl)

@@ -1,8 +1,7 @@
 // Whether a table is sound, on lent memory that may hold anything: nothing wraps and nothing is read
-// out of range. Refusals 1, 2 and 3 of a call, which every call on a table makes first.
+// out of range. What soundness adds for the book is tested after it.
 ghost use mathlib.Core.Path.{_≡_};
 ghost use Rattle.table.specs.Sound.{sound, Ranged, Shape};
-ghost use Rattle.table.specs.Calls.{callRefusal};
 ghost use Rattle.table.specs.Heads.{settings, table, tableIn};
 
 mod places;
@@ -14,11 +13,6 @@ use crate::places::index_is_sparse;
 use crate::rows::rows_are_good;
 use crate::rows::total_of;
 use lattice::limits::MOST_READINGS;
-use lattice::refusals::NOT_SOUND;
-use lattice::refusals::OTHER_LENGTH;
-use lattice::refusals::SETTINGS_OUT_OF_RANGE;
-use table::settings::in_range;
-use table::settings::lengths_fit;
 
 // One pass over the index, one search a key and one pass over the points. The counts come first, then
 // the index entries: only then does each name a stretch of the keys, and only then can a search end.
@@ -48,27 +42,4 @@ pub fn is_sound(head: table::Head, keys: &[i32], sums: &[i64], index: &[u16]) ->
     }
     let total = total_of(d, head.fineness, readings);
     rows_are_good(keys, sums, d, points, total)
-}
-
-// The number of the first of refusals 1, 2 and 3 that is met, else 0. Where a call is lent more than
-// the table, `more` says whether that has its length too.
-pub fn refusal_of(head: table::Head, keys: &[i32], sums: &[i64], index: &[u16], more: bool) -> u8
-    ensures { λ r. ⌜
-        (let t = tableIn head keys sums index in
-        r ≡ callRefusal (settings head) t more)
-        ⌝ }
-{
-    if !in_range(head.d, head.fineness, head.capacity) {
-        return SETTINGS_OUT_OF_RANGE;
-    }
-    if !lengths_fit(head.d, head.capacity, keys.len(), sums.len(), index.len()) {
-        return OTHER_LENGTH;
-    }
-    if !more {
-        return OTHER_LENGTH;
-    }
-    if !is_sound(head, keys, sums, index) {
-        return NOT_SOUND;
-    }
-    0
 }

@@ -1,36 +1,32 @@
 -- Soundness is kept: by accepting rows, hence by entering readings and by merging a table; a fresh table is sound. What each adds to the
 -- sums over the rows.
 use mathlib.Core.Path.{_≡_, refl, sym, ap, ap₂, _∙_, subst}
-use mathlib.Core.Bool.{Bool, false}
-use mathlib.Core.List.{List, _++_}
-use Prim.Native.Nat.{ℕ, zero, suc, _+_, _*_, _/_, _≤_}
+use mathlib.Core.Bool.{false}
+use mathlib.Core.List.{List}
+use Prim.Native.Nat.{ℕ, zero, suc, _+_, _*_, _≤_}
 use native.Mathlib.Nat.{not-suc-le-zero}
 use native.Mathlib.Omega.{arith}
 use lib.IntN.{ℤ, pos, _+ℤ_}
 use lib.Signed.{_≤ℤ_}
-use lib.Dec.{T, eqb, eqb→eq, leb→le}
-use lib.ListN.{length, length-replicate, getD-replicate}
+use lib.ListN.{length-replicate, getD-replicate}
 use Rattle.whole.specs.Sum.{sum, over}
-use Rattle.whole.specs.Lists.{at, All, Each}
+use Rattle.whole.specs.Lists.{All, Each}
 use Rattle.whole.proofs.Parts.{le-out}
-use Rattle.whole.proofs.Lists.{length-tab}
-use Rattle.whole.proofs.Tests.{and-l, and-r}
 use Rattle.lattice.specs.Limits.{most-W, most-readings}
 use Rattle.lattice.specs.Weight.{W}
-use Rattle.lattice.proofs.Tests.{all-pass}
 use Rattle.index.specs.Indexed.{count, used}
 use Rattle.index.proofs.Count.{count-cong}
 use Rattle.index.proofs.Finding.{keys-apart}
 use Rattle.table.specs.Table.{Settings, Table, Row, key, row, rows, entry, massOf, keysOf}
 use Rattle.table.specs.Sound.{sound, Good, Ranged, Fine}
 use Rattle.table.specs.Pour.{pour, news, accept}
-use Rattle.table.specs.Reading.{Reading, readingAt, parsed, shares, refusal, entered}
-use Rattle.table.specs.Calls.{ranged, fits, fresh, eachTests, bothTests, mergeRefusal, merged, callRefusal}
+use Rattle.table.specs.Reading.{Reading, shares, entered}
+use Rattle.table.specs.Calls.{ranged, fresh, merged}
 use Rattle.table.proofs.Lists.{all-tab, each-tab}
 use Rattle.table.proofs.Rows.{Apart, Additive}
-use Rattle.table.proofs.Soundness.{to-ranged, to-shape, to-sound, fine-kept, masses-over, total-most}
+use Rattle.table.proofs.Soundness.{fine-kept, masses-over, total-most}
 use Rattle.table.proofs.Pouring.{Pourable, poured-all}
-use Rattle.table.proofs.Shares.{Accepted, accepted, shares-apart, shares-mass, shares-good}
+use Rattle.table.proofs.Shares.{Accepted, shares-apart, shares-mass, shares-good}
 
 -- ---- accepting rows
 rows-counted : (c : Settings) (t : Table) (rs : List Row) (k : ℕ) → rows c (accept c t rs k) ≡ rows c (pour c t rs)
@@ -101,24 +97,8 @@ reading-acceptable c t r F A =
       total = shares-mass (c .d) (c .S) (F .ranged .S-least) r ∙ ap pos one;
     }
 
-pub entered-adds : (c : Settings) (t : Table) (r : Reading) → length (r .position) ≡ suc (c .d) → Fine c t → refusal c t r ≡ 0 → Adds c t (entered c t r) 1 (over (shares (c .d) (c .S) r))
-entered-adds c t r size F e = accept-adds c t (shares (c .d) (c .S) r) 1 (reading-acceptable c t r F (accepted c t r size e))
-
--- the readings of a list have d + 1 coordinates
-pub parsed-size : (d : ℕ) (l : List ℤ) → All (λ r. length (r .position) ≡ suc d) (parsed d l)
-unfolding parsed
-parsed-size d l = all-tab (λ r. length (r .position) ≡ suc d) (length l / (d + 2)) (readingAt d l) (λ j h. length-tab (suc d) (λ i. at l ((d + 2) * j + i)))
-
--- ---- a call that is not refused as a whole
-pub record Called (c : Settings) (t : Table) (more : Bool) : Type 0 where
-  pub fine : Fine c t
-  pub whole : T more
-
-pub called : (c : Settings) (t : Table) (more : Bool) → callRefusal c t more ≡ 0 → Called c t more
-unfolding callRefusal
-called c t more e =
-    let p = all-pass _ tt e in
-    record { fine = record { ranged = to-ranged c (p .0); shape = to-shape c t (and-l (fits c t) more (p .1 .0)); sound = to-sound c t (p .1 .1 .0) }; whole = and-r (fits c t) more (p .1 .0) }
+pub entered-adds : (c : Settings) (t : Table) (r : Reading) → Fine c t → Accepted c t r → Adds c t (entered c t r) 1 (over (shares (c .d) (c .S) r))
+entered-adds c t r F A = accept-adds c t (shares (c .d) (c .S) r) 1 (reading-acceptable c t r F A)
 
 -- ---- merging
 pub record Mergeable (c : Settings) (t : Table) (b : Settings) (s : Table) : Type 0 where
@@ -128,24 +108,6 @@ pub record Mergeable (c : Settings) (t : Table) (b : Settings) (s : Table) : Typ
   pub same-S : c .S ≡ b .S
   pub few : t .n + s .n ≤ most-readings
   pub room : t .m + news c t (keysOf (rows b s)) ≤ c .C
-
-pub mergeable : (c : Settings) (t : Table) (b : Settings) (s : Table) → mergeRefusal c t b s ≡ 0 → Mergeable c t b s
-unfolding mergeRefusal
-mergeable c t b s e =
-    let x = eqb (c .d) (b .d) in
-    let y = eqb (c .S) (b .S) in
-    let p = all-pass (eachTests c t b s ++ bothTests c b (t .n + s .n) (t .m + news c t (keysOf (rows b s)))) tt e in
-    let q = p .1 .1 in
-    let r = q .1 .1 in
-    let l = r .1 .1 in
-    record {
-      target = record { ranged = to-ranged c (p .0); shape = to-shape c t (q .0); sound = to-sound c t (r .0) };
-      source = record { ranged = to-ranged b (p .1 .0); shape = to-shape b s (q .1 .0); sound = to-sound b s (r .1 .0) };
-      same-d = eqb→eq (c .d) (b .d) (and-l x y (l .0));
-      same-S = eqb→eq (c .S) (b .S) (and-r x y (l .0));
-      few = leb→le (t .n + s .n) most-readings (l .1 .0);
-      room = leb→le (t .m + news c t (keysOf (rows b s))) (c .C) (l .1 .1 .0);
-    }
 
 module _ (b : Settings) (s : Table) (F : Fine b s) where
   pub rows-apart : Each Apart (rows b s)

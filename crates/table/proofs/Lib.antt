@@ -12,9 +12,7 @@ pub mod Refusals
 pub mod Limits
 pub mod Shares
 pub mod Keeping
-pub mod Entering
 pub mod Meaning
 pub mod Theorems
 pub mod Calls
 pub mod Clearing
-pub mod Answering

@@ -2,37 +2,34 @@
 -- its weight times the value.
 use mathlib.Core.Path.{_≡_, refl, sym, ap, _∙_}
 use mathlib.Core.Logic.{_⊎_, inl, inr}
-use mathlib.Core.List.{List, [], _∷_, _++_, map}
-use Prim.Native.Nat.{ℕ, suc, _+_, _*_, _≤_, _<_}
+use mathlib.Core.List.{List, [], _∷_, map}
+use Prim.Native.Nat.{ℕ, _+_, _*_, _≤_, _<_}
 use native.Mathlib.Nat.{eq-zero-or-pos, mul-le-mul-left}
 use native.Mathlib.Omega.{arith}
-use lib.IntN.{ℤ, zero-*ℤ, pos, negℤ, natAbs, _*ℤ_}
+use lib.IntN.{ℤ, zero-*ℤ, pos, negℤ, _*ℤ_}
 use lib.Signed.{_≤ℤ_}
-use lib.Dec.{T, leb→le}
+use lib.Dec.{T}
 use lib.ListN.{length, getD, take}
 use Rattle.whole.specs.Size.{Abs≤}
 use Rattle.whole.specs.Sum.{sum, over}
 use Rattle.whole.specs.Lists.{at, All, Each}
 use Rattle.whole.proofs.Linear.{on, difs, ints, dif-le}
 use Rattle.whole.proofs.Parts.{le-out}
-use Rattle.whole.proofs.Size.{abs-of, abs-lo, abs-hi}
+use Rattle.whole.proofs.Size.{abs-lo, abs-hi}
 use Rattle.whole.proofs.Sum.{none, one-hit, sum-list}
-use Rattle.whole.proofs.Tests.{T-true}
 use Rattle.lattice.specs.Limits.{most-value, most-readings}
 use Rattle.lattice.specs.Lattice.{Point, remainderOf}
 use Rattle.lattice.specs.Weight.{W, weight}
 use Rattle.lattice.specs.Points.{Points, points, weighed}
-use Rattle.lattice.specs.Position.{Position, allNear, sumsToZero}
+use Rattle.lattice.specs.Position.{Position}
 use Rattle.lattice.proofs.Points.{remainder-once, exactly-these, all-sum-to-W}
 use Rattle.lattice.proofs.Reach.{reach}
-use Rattle.lattice.proofs.Tests.{all-pass}
-use Rattle.lattice.proofs.Judging.{judged-none, judged-right}
 use Rattle.index.specs.Keys.{same}
 use Rattle.index.proofs.Equality.{same-eq, eq-same}
 use Rattle.table.specs.Table.{Settings, Table, Row, massOf, keysOf}
 use Rattle.table.specs.Sound.{Good, Ranged}
-use Rattle.table.specs.Pour.{news, fewTest, roomTest}
-use Rattle.table.specs.Reading.{Reading, share, shares, ownTests, refusal}
+use Rattle.table.specs.Pour.{news}
+use Rattle.table.specs.Reading.{Reading, share, shares}
 use Rattle.table.specs.Inner.{weighedRow}
 use Rattle.table.proofs.Lists.{all-list, each-list, all-map, each-map, over-map}
 use Rattle.table.proofs.Rows.{Apart, valueOf, gives, given, pair-path}
@@ -44,19 +41,6 @@ pub record Accepted (c : Settings) (t : Table) (r : Reading) : Type 0 where
   pub fair : Abs≤ (r .value) most-value
   pub few : t .n + 1 ≤ most-readings
   pub room : t .m + news c t (keysOf (shares (c .d) (c .S) r)) ≤ c .C
-
-pub accepted : (c : Settings) (t : Table) (r : Reading) → length (r .position) ≡ suc (c .d) → refusal c t r ≡ 0 → Accepted c t r
-unfolding refusal
-accepted c t r size e =
-    let a = allNear (r .position) in
-    let b = sumsToZero (r .position) in
-    let p = all-pass (ownTests r ++ (fewTest (t .n + 1) ∷ roomTest (c .C) (t .m + news c t (keysOf (shares (c .d) (c .S) r))) ∷ [])) tt e in
-    record {
-      position = judged-right (c .d) (r .position) size .none .0 (judged-none (r .position) (T-true a (p .0)) (T-true b (p .1 .0)));
-      fair = abs-of (r .value) most-value (leb→le (natAbs (r .value)) most-value (p .1 .1 .0));
-      few = leb→le (t .n + 1) most-readings (p .1 .1 .1 .0);
-      room = leb→le (t .m + news c t (keysOf (shares (c .d) (c .S) r))) (c .C) (p .1 .1 .1 .1 .0);
-    }
 
 -- ---- a weight times a value
 pub fair-low : (w : ℕ) (v : ℤ) → negℤ (pos most-value) ≤ℤ v → negℤ (pos most-value *ℤ pos w) ≤ℤ (pos w *ℤ v)

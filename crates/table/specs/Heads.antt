@@ -7,9 +7,8 @@ use denote.Ref.{RefT, now}
 use denote.Triple.Both.{Both}
 use Rattle.table.specs.declared.Head.{Head}
 use Rattle.table.specs.Table.{Settings, Table}
-use Rattle.table.specs.Calls.{Outcome, lent}
 
--- "(d, S, C, number of readings n, number of points m)": the first three
+-- "(d, S, C, number of readings n, number of points m)": the first three. The room of the book stands behind them.
 abbrev pub settings : Head → Settings
 settings h = record { d = h .d; S = h .fineness; C = h .capacity }
 
@@ -21,13 +20,13 @@ tableWith h m keys sums index = record { n = h .readings; m = m; keys = keys; su
 abbrev pub table : Head → List ℤ → List ℤ → List ℕ → Table
 table h keys sums index = tableWith h (h .points) keys sums index
 
--- the head of these settings, with no reading and no point
-abbrev pub headOf : Settings → Head
-headOf c = record { d = c .d; fineness = c .S; capacity = c .C; readings = 0; points = 0 }
+-- the head of these settings and this room of the book, with no reading and no point
+abbrev pub headOf : Settings → ℕ → Head
+headOf c B = record { d = c .d; fineness = c .S; capacity = c .C; room = B; readings = 0; points = 0 }
 
 -- a head with other counts
 abbrev pub withCounts : Head → ℕ → ℕ → Head
-withCounts h n m = record { d = h .d; fineness = h .fineness; capacity = h .capacity; readings = n; points = m }
+withCounts h n m = record { d = h .d; fineness = h .fineness; capacity = h .capacity; room = h .room; readings = n; points = m }
 
 -- Points counted and memory left are those of the table t.
 pub record Holds (t : Table) (points : ℕ) (keys sums : List ℤ) (index : List ℕ) : Type 0 where
@@ -44,18 +43,9 @@ pub record Answers (given : Head) (x : ℕ) (t : Table) (number : ℕ) (head : H
   pub sums-are : sums ≡ t .sums
   pub index-are : index ≡ t .index
 
--- What enter hands back and leaves: "answers how many it took, the number (0 if all), and the new head"
-pub record Enters (given : Head) (o : Outcome) (taken number : ℕ) (head : Head) (keys sums : List ℤ) (index : List ℕ) : Type 0 where
-  pub taken-is : taken ≡ o .taken
-  pub answers : Answers given (o .number) (o .table) number head keys sums index
-
 -- a slice that is lent to a call, as it is before the call and after it
 abbrev pub Slice : Type 0 → Type 0
 Slice A = Both (RefT (List A)) (RefT (List A))
-
--- what a fresh call is lent, in three such slices
-abbrev pub lentIn : Slice ℤ → Slice ℤ → Slice ℕ → Table
-lentIn keys sums index = lent (now (keys .entry)) (now (sums .entry)) (now (index .entry))
 
 -- the table that a call finds in three slices, of a head where so many points are stored
 abbrev pub tableWithIn : Head → ℕ → Slice ℤ → Slice ℤ → Slice ℕ → Table
@@ -72,7 +62,3 @@ HoldsIn t points keys sums index = Holds t points (now (keys .exit)) (now (sums 
 -- `Answers` of what is left in three slices
 abbrev pub AnswersIn : Head → ℕ → Table → ℕ → Head → Slice ℤ → Slice ℤ → Slice ℕ → Type 0
 AnswersIn given x t number head keys sums index = Answers given x t number head (now (keys .exit)) (now (sums .exit)) (now (index .exit))
-
--- `Enters` of what is left in three slices
-abbrev pub EntersIn : Head → Outcome → ℕ → ℕ → Head → Slice ℤ → Slice ℤ → Slice ℕ → Type 0
-EntersIn given o taken number head keys sums index = Enters given o taken number head (now (keys .exit)) (now (sums .exit)) (now (index .exit))

@@ -7,8 +7,7 @@ use lib.Dec.{eqb, leb}
 use lib.IntN.{ℤ, _+ℤ_}
 use lib.ListN.{set}
 use Rattle.whole.specs.Lists.{splice}
-use Rattle.lattice.specs.Limits.{most-readings}
-use Rattle.lattice.specs.Refusals.{too-many-readings, too-many-points}
+use Rattle.lattice.specs.Refusals.{too-many-points}
 use Rattle.index.specs.Keys.{keyAt}
 use Rattle.index.specs.Search.{entryAt, search}
 use Rattle.table.specs.Table.{Settings, Table, Row, mass, value, seek, found}
@@ -62,10 +61,6 @@ newsIn c keys index (k ∷ ks) = oneIfNew c keys index k + newsIn c keys index k
 -- how many keys of a list are new to a table: its sums do not matter
 abbrev pub news : Settings → Table → List (List ℤ) → ℕ
 news c t ks = newsIn c (t .keys) (t .index) ks
-
--- "7: more than 4,096 readings would be held": where n would be
-abbrev pub fewTest : ℕ → Bool × ℕ
-fewTest n = (leb n most-readings, too-many-readings)
 
 -- "8: more than C points would be stored": where m would be
 abbrev pub roomTest : ℕ → ℕ → Bool × ℕ

@@ -1,17 +1,18 @@
-// A table of readings: the head, which is passed by value, and the call that makes a fresh table.
-// What a table means and what each call answers stands in specs/, and the laws of that in proofs/.
+// A table of readings: the head, which is passed by value, and what the calls test and clear of a
+// table's memory. What a table means stands in specs/, and the laws of that in proofs/.
 ghost use mathlib.Core.Path.{_≡_};
 ghost use Rattle.table.specs.Heads.{withCounts};
 
-pub mod fresh;
+pub mod clear;
 pub mod reading;
 pub mod settings;
 
-// The settings (d, S, C) and the numbers of readings and of points.
+// The settings (d, S, C and the room B of the book) and the numbers of readings and of points.
 pub struct Head {
     pub d: usize,
     pub fineness: u32,
     pub capacity: usize,
+    pub room: usize,
     pub readings: usize,
     pub points: usize,
 }
@@ -30,6 +31,7 @@ pub fn with_counts(head: Head, readings: usize, points: usize) -> Head
         d: head.d,
         fineness: head.fineness,
         capacity: head.capacity,
+        room: head.room,
         readings,
         points,
     }

@@ -9,7 +9,7 @@ use lib.Dec.{eqb, eqb·suc-zero}
 use lib.IntN.{ℤ}
 use borrow.Author.Tests.{ne-eqb}
 use Rattle.whole.proofs.Tests.{and-l}
-use Rattle.lattice.specs.Refusals.{first}
+use Rattle.lattice.specs.Refusals.{first, number-not-held}
 use Rattle.lattice.proofs.Tests.{all-pass, first-stops, first-passes}
 use Rattle.index.specs.Keys.{eqZ}
 use Rattle.table.specs.declared.Head.{Head}
@@ -18,11 +18,10 @@ use Rattle.table.specs.Table.{Settings}
 use Rattle.book.specs.Book.{Booked, numberAt, among}
 use Rattle.book.specs.Numbers.{holdsNumber}
 use Rattle.book.specs.Withdraw.{entryWith, withdrawn, without}
-use Rattle.book.specs.Calls.{number-not-held, allFit, callTests, callRefusal, withdrawRefusal, afterWithdraw}
-use Rattle.book.specs.Heads.{booked, AnswersBook}
+use Rattle.book.specs.Calls.{allFit, callTests, callRefusal, withdrawRefusal, afterWithdraw}
+use Rattle.book.specs.Heads.{booked, HoldsBook, AnswersBook}
 use Rattle.book.specs.Theorems.{FineBook}
 use Rattle.book.proofs.Booking.{fine-of}
-use Rattle.withdraw.specs.Inner.{LeavesBook}
 use Rattle.withdraw.proofs.Downward.{place-down, sought-low}
 
 -- ---- a number is held where an entry has it
@@ -77,12 +76,12 @@ module _ (c : Settings) (b : Booked) (k : ℤ) where
       entry-low n = sought-low (place-down (numberAt (c .d) (b .book)) k) (b .table .n) (place - 1) (sym p ∙ omega (arith, n))
 
 -- ---- what it answers
-module _ (h : Head) (room : ℕ) (keys sums : List ℤ) (index : List ℕ) (book : List ℤ) (k : ℤ) where
+module _ (h : Head) (keys sums : List ℤ) (index : List ℕ) (book : List ℤ) (k : ℤ) where
   abbrev c : Settings
   c = settings h
 
   abbrev b : Booked
-  b = booked h room keys sums index book
+  b = booked h keys sums index book
 
   abbrev Withdraws : ℕ → Head → List ℤ → List ℤ → List ℕ → List ℤ → Type 0
   Withdraws = AnswersBook h (withdrawRefusal c b k) (afterWithdraw c b k)
@@ -107,7 +106,7 @@ module _ (h : Head) (room : ℕ) (keys sums : List ℤ) (index : List ℕ) (book
     pub not-held : place ≡ 0 → Withdraws number-not-held h keys sums index book
     not-held z = stays number-not-held (told-none c b k e p z) (λ y. omega (arith, y))
 
-    pub done : place ≢ 0 → {points : ℕ} {keys′ sums′ : List ℤ} {index′ : List ℕ} {book′ : List ℤ} → LeavesBook (without c b (place - 1)) points keys′ sums′ index′ book′
+    pub done : place ≢ 0 → {points : ℕ} {keys′ sums′ : List ℤ} {index′ : List ℕ} {book′ : List ℤ} → HoldsBook (without c b (place - 1)) points keys′ sums′ index′ book′
         → {h′ : Head} → h′ ≡ withCounts h (h .readings - 1) points → Withdraws 0 h′ keys′ sums′ index′ book′
     unfolding withdrawn
     done n L q = let a : without c b (place - 1) ≡ afterWithdraw c b k = ap (λ (x : ℕ). without c b (x - 1)) p ∙ sym (withdraw-done c b k (told-done c b k e p n)) in record {

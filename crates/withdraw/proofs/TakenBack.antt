@@ -2,7 +2,6 @@
 use mathlib.Core.Path.{_≡_, sym, ap, subst, _∙_}
 use mathlib.Core.List.{List}
 use Prim.Native.Nat.{ℕ, _+_, _*_, _-_, _≤_, _<_}
-use native.Mathlib.Nat.{mul-le-mul-left}
 use native.Mathlib.Omega.{arith}
 use lib.IntN.{ℤ}
 use lib.ListN.{length, take, drop}
@@ -15,15 +14,13 @@ use Rattle.table.specs.Pour.{news}
 use Rattle.table.specs.Sound.{Fine}
 use Rattle.book.specs.Book.{Booked, entryOf}
 use Rattle.book.specs.Withdraw.{lowered, leave, afresh, withdrawn, closed, without}
+use Rattle.book.specs.Heads.{HoldsBook}
 use Rattle.book.specs.Theorems.{FineBook}
-use Rattle.book.proofs.Testing.{to-carries, entry-lawful, entry-stored}
+use Rattle.book.proofs.Testing.{entry-lawful, entry-stored}
 use Rattle.book.proofs.Entries.{entry-inside, entries-few, part-reading, part-size}
 use Rattle.book.proofs.Keeping.{withdraw-keeps}
-use Rattle.withdraw.specs.Inner.{Renameable, Lowerable, LeavesBook}
-
--- all entries are in the book
-pub book-long : (c : Settings) (b : Booked) → FineBook c b → (c .d + 3) * b .table .n ≤ length (b .book)
-book-long c b B = omega (arith, B .lengths, mul-le-mul-left (c .d + 3) (to-carries c b (B .fine) (B .sound) .0))
+use Rattle.book.proofs.Fine.{book-long}
+use Rattle.withdraw.specs.Inner.{Renameable, Lowerable}
 
 module _ (c : Settings) (b : Booked) (B : FineBook c b) (j : ℕ) (l : j < b .table .n) where
   abbrev t : Table
@@ -76,7 +73,7 @@ module _ (c : Settings) (b : Booked) (B : FineBook c b) (j : ℕ) (l : j < b .ta
           F : Fine c (without c b j .table)
           F = withdraw-keeps c b j B l .fine-book .fine
 
-      pub taken-back : {index : List ℕ} {book : List ℤ} → index ≡ afresh (c .C) (keyAt (c .d) (w .keys)) (w .m) → book ≡ closed (c .d) (t .n) j (b .book) → LeavesBook (without c b j) (w .m) (w .keys) (w .sums) index book
+      pub taken-back : {index : List ℕ} {book : List ℤ} → index ≡ afresh (c .C) (keyAt (c .d) (w .keys)) (w .m) → book ≡ closed (c .d) (t .n) j (b .book) → HoldsBook (without c b j) (w .m) (w .keys) (w .sums) index book
       unfolding withdrawn
       taken-back f g = record {
         holds = record {

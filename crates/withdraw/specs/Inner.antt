@@ -13,9 +13,7 @@ use Rattle.table.specs.Table.{Settings, Table, key, keysOf}
 use Rattle.table.specs.Pour.{news}
 use Rattle.table.specs.Reading.{readingOf, shares, Lawful}
 use Rattle.table.specs.Sound.{Fine}
-use Rattle.table.specs.Heads.{Holds}
 use Rattle.pour.specs.Inner.{most-share, most-rows}
-use Rattle.book.specs.Book.{Booked}
 use Rattle.book.specs.Withdraw.{pointOf, leaveAt}
 
 -- ---- a reading's weights subtracted
@@ -74,9 +72,3 @@ pub record Renameable (d C m : ℕ) (keys : List ℤ) (index : List ℕ) : Type 
 -- numbers moved down by so many places; 0 comes where there is none to move
 unfoldable pub movedDown : ℕ → List ℤ → List ℤ
 movedDown by l = tab (length l) (λ p. at l (p + by))
-
--- ---- an entry taken back
--- Points counted and memory left are those of a table with its book.
-pub record LeavesBook (b : Booked) (points : ℕ) (keys sums : List ℤ) (index : List ℕ) (book : List ℤ) : Type 0 where
-  pub holds : Holds (b .table) points keys sums index
-  pub book-is : book ≡ b .book

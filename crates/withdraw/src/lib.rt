@@ -14,19 +14,15 @@ mod taking;
 use crate::entries::entry_with;
 use crate::taking::take_back;
 use carried::refusal_of;
+use lattice::refusals::NUMBER_NOT_HELD;
 use table::Answer;
 use table::Head;
 use table::with_counts;
 
-// "19 number not held (withdraw, after 3)": no reading of the table has the number.
-pub const NUMBER_NOT_HELD: u8 = 19;
-
 // The number 0 and the head with one reading less and the points that are left, or the number of the
-// first refusal that is met, 1, 2, 3 or 19, and the head as given. The book has room for `room`
-// readings.
+// first refusal that is met, 1, 2, 3 or 19, and the head as given.
 pub fn withdraw(
     head: Head,
-    room: usize,
     keys: &mut [i32],
     sums: &mut [i64],
     index: &mut [u16],
@@ -35,11 +31,11 @@ pub fn withdraw(
 ) -> Answer
     ensures { λ r. ⌜
         (let c = settings head in
-        let b = bookedIn head room keys sums index book in
+        let b = bookedIn head keys sums index book in
         AnswersBookIn head (withdrawRefusal c b number) (afterWithdraw c b number) (r .number) (r .head) keys sums index book)
         ⌝ }
 {
-    let told = refusal_of(head, room, keys, sums, index, book, true);
+    let told = refusal_of(head, keys, sums, index, book, true);
     if told != 0 {
         return Answer { number: told, head };
     }
@@ -50,7 +46,7 @@ pub fn withdraw(
             head,
         };
     }
-    let points = take_back(head, room, keys, sums, index, book, place - 1);
+    let points = take_back(head, keys, sums, index, book, place - 1);
     Answer {
         number: 0,
         head: with_counts(head, head.readings - 1, points),

@@ -6,7 +6,7 @@ ghost use Rattle.index.specs.Keys.{keyAt};
 ghost use Rattle.index.specs.Search.{entryAt, search};
 ghost use Rattle.book.specs.Withdraw.{afresh};
 ghost use Rattle.withdraw.specs.Inner.{Nameable, Renameable};
-use table::fresh::clear_index;
+use table::clear::clear_index;
 
 // Point i takes the empty place at which the search for its key ends.
 fn name_point(keys: &[i32], index: &mut [u16], d: usize, capacity: usize, i: usize)

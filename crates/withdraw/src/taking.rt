@@ -5,8 +5,8 @@ ghost use Rattle.table.specs.Reading.{readingOf, shares};
 ghost use Rattle.table.specs.Heads.{settings, table, tableWith, tableIn};
 ghost use Rattle.book.specs.Withdraw.{lowered, leave, without};
 ghost use Rattle.book.specs.Theorems.{FineBook};
-ghost use Rattle.book.specs.Heads.{booked, bookedIn};
-ghost use Rattle.withdraw.specs.Inner.{Lowerable, LeavesBook};
+ghost use Rattle.book.specs.Heads.{booked, bookedIn, HoldsBook};
+ghost use Rattle.withdraw.specs.Inner.{Lowerable};
 use crate::closing::close_up;
 use crate::leaving::leave_all;
 use crate::lowering::lower;
@@ -37,18 +37,17 @@ fn unpour(head: Head, keys: &mut [i32], sums: &mut [i64], index: &[u16], reading
 // first are a reading's own: position, then value.
 pub fn take_back(
     head: Head,
-    room: usize,
     keys: &mut [i32],
     sums: &mut [i64],
     index: &mut [u16],
     book: &mut [i32],
     j: usize,
 ) -> usize
-    requires { ⌜ FineBook (settings head) (booked head room (now keys) (now sums) (now index) (now book)) ⌝ }
+    requires { ⌜ FineBook (settings head) (booked head (now keys) (now sums) (now index) (now book)) ⌝ }
     requires { ⌜ j < head .readings ⌝ }
     ensures { λ r. ⌜
-        (let b = without (settings head) (bookedIn head room keys sums index book) j in
-        LeavesBook b r (now (keys .exit)) (now (sums .exit)) (now (index .exit)) (now (book .exit)))
+        (let b = without (settings head) (bookedIn head keys sums index book) j in
+        HoldsBook b r (now (keys .exit)) (now (sums .exit)) (now (index .exit)) (now (book .exit)))
         ⌝ }
 {
     let d = head.d;

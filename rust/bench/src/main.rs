@@ -3,7 +3,7 @@
 
 use bench::cases;
 use bench::growth;
-use bench::input::{FINENESS, SEED};
+use bench::input::{Numbering, FINENESS, SEED};
 use bench::measure::{measure, ratio, shown, Case, Measured, Times};
 use std::fs;
 use std::process::Command;
@@ -36,12 +36,16 @@ fn print_machine() {
         "- Compiler of plain and hashed: {}",
         version.as_deref().map_or("unknown", str::trim)
     );
-    println!("- Seed {SEED}, fineness S = {FINENESS}, capacity C = 8192 for entering and merging, else C = points.");
+    println!(
+        "- Seed {SEED}, fineness S = {FINENESS}, capacity C = 8192, in full tables C = points, for the logs of 16 KB"
+    );
+    println!("  C = 512; room B = 4096. Readings have numbers anywhere in 32 bits, but where a log has none.");
 }
 
 fn print_method() {
     println!("- plain: the same algorithm in safe Rust. hashed: a HashMap with the default hasher from [i32; 6], all");
-    println!("  coordinates of a point and then 0, to its mass and value sum; its simplex by sorting the residual.");
+    println!("  coordinates of a point and then 0, to its mass and value sum, and one from a reading's number to the");
+    println!("  reading, without their order; its simplex by sorting the residual.");
     println!("- Times are in µs: the median of the rounds, and in brackets the least. A warm-up comes first, and the");
     println!(
         "  versions take turns round by round. A ratio above 1 means that the verified call is faster; it is that of"
@@ -56,10 +60,11 @@ fn print_method() {
     println!(
         "  filter clears both sheets and copies the sums; list numbers its list and a spare one on the stack; report"
     );
+    println!("  clears its own table and sheets on the stack; each test of a table clears a sheet and an index of the");
     println!(
-        "  clears its own table and sheets on the stack. The hashed version allocates inside the clock: its list, a"
+        "  numbers on the stack, 164 KB together. The hashed version allocates inside the clock: its list, a copy of"
     );
-    println!("  copy of the map and one list for each pass in filter, and the map in load and report.\n");
+    println!("  the map and one list for each pass in filter, and the maps in load and report.\n");
 }
 
 /// Every case, made when its turn comes.
@@ -72,8 +77,15 @@ fn all_cases() -> Vec<Box<dyn Fn() -> Case>> {
         all.push(Box::new(move || cases::enter_one_at_a_time(d, 4096)));
     }
     for d in [1, 3, 5] {
-        all.push(Box::new(move || cases::soundness(d, 8192)));
+        all.push(Box::new(move || cases::soundness(d, 4096)));
     }
+    for d in [1, 3, 5] {
+        all.push(Box::new(move || cases::enter_nothing(d, 8192)));
+    }
+    for d in [1, 3, 5] {
+        all.push(Box::new(move || cases::withdraw(d, 4096)));
+    }
+    all.push(Box::new(|| cases::withdraw_from_full(3, 8192)));
     all.push(Box::new(|| cases::merge_to_full(3)));
     all.push(Box::new(|| cases::merge_full(5)));
     all.push(Box::new(|| cases::list(3, 8192)));
@@ -81,7 +93,8 @@ fn all_cases() -> Vec<Box<dyn Fn() -> Case>> {
         all.push(Box::new(move || cases::filter(d, 8192, 1)));
         all.push(Box::new(move || cases::filter(d, 8192, 4096)));
     }
-    all.push(Box::new(cases::load));
+    all.push(Box::new(|| cases::load(Numbering::None)));
+    all.push(Box::new(|| cases::load(Numbering::All)));
     all.push(Box::new(cases::report));
     all.push(Box::new(|| cases::fresh(3, 8192)));
     all

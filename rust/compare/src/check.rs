@@ -1,110 +1,43 @@
 //! Runs each call on both sides, the verified one and the independent one, each on memory of its own, and compares
 //! their answers and every element of every lent slice. The table handed in then holds what the verified call left.
 
+use crate::differences::Differences;
 use crate::guard::guarded;
 use crate::random::Random;
+use crate::sheets::Sheets;
+use crate::sides::{Independent, Side, Verified};
 use crate::table::Table;
 use crate::tally::{Call, Tally, CALLS};
 use std::fmt::Debug;
 use vimrothi::calls::{self, Answer, Entered, Head, Loaded};
 
-/// What a filter call is lent besides the table: two work sheets, the queries, and the lists of values and codes.
-#[derive(Clone, Debug)]
-pub struct Sheets {
-    pub first: Vec<i64>,
-    pub second: Vec<i64>,
-    pub queries: Vec<i32>,
-    pub values: Vec<i32>,
-    pub codes: Vec<u8>,
+/// A call that may write a table: what both sides answered and left, and the table before.
+struct Written<T> {
+    answer: T,
+    found: Differences,
+    before: Table,
 }
 
-impl Sheets {
-    /// Sheets and lists of the right lengths for these queries, full of random numbers.
-    pub fn lent(random: &mut Random, d: usize, capacity: usize, queries: Vec<i32>) -> Sheets {
-        let count = queries.len() / (d + 1);
-        Sheets {
-            first: (0..2 * capacity).map(|_| random.bits() as i64).collect(),
-            second: (0..2 * capacity).map(|_| random.bits() as i64).collect(),
-            queries,
-            values: (0..count).map(|_| random.bits() as i32).collect(),
-            codes: (0..count).map(|_| random.bits() as u8).collect(),
-        }
-    }
-}
-
-/// The two answers of one call, and their differences and those of the lent memory, one line for each.
-struct Differences {
-    answers: String,
-    lines: Vec<String>,
-}
-
-impl Differences {
-    /// Starts with the two answers. A panic of the independent version is a difference.
-    fn of_answers<T: PartialEq + Debug>(verified: &T, independent: &Result<T, String>) -> Differences {
-        let told = match independent {
-            Ok(answer) => format!("answers {answer:?}"),
-            Err(panic) => format!("fails: {panic}"),
-        };
-        let alike = independent.as_ref() == Ok(verified);
-        Differences {
-            answers: format!("verified answers {verified:?}\n  independent {told}"),
-            lines: if alike {
-                Vec::new()
-            } else {
-                vec!["the answers differ".to_string()]
-            },
-        }
+impl<T: PartialEq + Debug> Written<T> {
+    /// Runs the verified call on the table and the independent one on a copy.
+    fn by(
+        table: &mut Table,
+        verified: impl FnOnce(&mut Table) -> T,
+        independent: impl FnOnce(&mut Table) -> T,
+    ) -> Written<T> {
+        let before = table.clone();
+        let mut other = table.clone();
+        let answer = verified(table);
+        let independent = guarded(|| independent(&mut other));
+        let mut found = Differences::of_answers(&answer, &independent);
+        found.table("sides:", table, &other);
+        Written { answer, found, before }
     }
 
-    /// Adds the first difference of two slices, where there is one.
-    fn slice<T: PartialEq + Debug>(&mut self, name: &str, verified: &[T], other: &[T]) {
-        if verified.len() != other.len() {
-            self.lines
-                .push(format!("{name}: {} elements and {}", verified.len(), other.len()));
-        } else if let Some(place) = (0..verified.len()).find(|place| verified[*place] != other[*place]) {
-            let (one, two) = (&verified[place], &other[place]);
-            self.lines.push(format!(
-                "{name} differ first at {place}: verified {one:?}, other {two:?}"
-            ));
-        }
+    /// A call refused as a whole must have left the table as it was.
+    fn must_be_unchanged(&mut self, table: &Table) {
+        self.found.table("refused, before:", table, &self.before);
     }
-
-    /// Adds the differences of a table's three slices.
-    fn table(&mut self, name: &str, verified: &Table, other: &Table) {
-        self.slice(&format!("{name} keys"), &verified.keys, &other.keys);
-        self.slice(&format!("{name} sums"), &verified.sums, &other.sums);
-        self.slice(&format!("{name} index"), &verified.index, &other.index);
-    }
-
-    /// Adds the differences of what filter was lent.
-    fn sheets(&mut self, name: &str, verified: &Sheets, other: &Sheets) {
-        self.slice(&format!("{name} first sheet"), &verified.first, &other.first);
-        self.slice(&format!("{name} second sheet"), &verified.second, &other.second);
-        self.slice(&format!("{name} queries"), &verified.queries, &other.queries);
-        self.slice(&format!("{name} values"), &verified.values, &other.values);
-        self.slice(&format!("{name} codes"), &verified.codes, &other.codes);
-    }
-}
-
-fn theirs(head: Head) -> independent::Head {
-    independent::Head {
-        d: head.d,
-        fineness: head.fineness,
-        capacity: head.capacity,
-        readings: head.readings,
-        points: head.points,
-    }
-}
-
-fn ours(head: independent::Head) -> Head {
-    let independent::Head {
-        d,
-        fineness,
-        capacity,
-        readings,
-        points,
-    } = head;
-    Head::new(d, fineness, capacity).with_counts(readings, points)
 }
 
 /// The bytes of a log in hexadecimal.
@@ -113,6 +46,14 @@ fn hexadecimal(log: &[u8]) -> String {
         .map(|byte| format!("{byte:02X}"))
         .collect::<Vec<_>>()
         .join(" ")
+}
+
+/// Whether all bytes are this one. A slice is held to itself one byte on, which takes far less time than byte for byte.
+fn is_all(bytes: &[u8], byte: u8) -> bool {
+    let Some((first, others)) = bytes.split_first() else {
+        return true;
+    };
+    *first == byte && *others == bytes[..others.len()]
 }
 
 /// The comparison of one case: its counts, and a text for each disagreement.
@@ -142,102 +83,74 @@ impl Check {
         }
     }
 
+    /// Settles a call that is done or refused as a whole, and keeps the head that it hands back.
+    fn settle_whole(
+        &mut self,
+        call: Call,
+        table: &mut Table,
+        mut written: Written<Answer>,
+        input: impl FnOnce() -> String,
+    ) -> Answer {
+        let answer = written.answer;
+        if answer.number == 0 {
+            self.tally.note_size(answer.head.readings, answer.head.points);
+        } else {
+            written.must_be_unchanged(table);
+        }
+        table.head = answer.head;
+        let Written { found, before, .. } = written;
+        self.settle(call, answer.number, found, || format!("{before}\n    {}", input()));
+        answer
+    }
+
     /// Compares fresh with the settings of the table's head, in the table's slices.
     pub fn fresh(&mut self, table: &mut Table) -> Answer {
-        let before = table.clone();
-        let mut other = table.clone();
-        let Head {
-            d, fineness, capacity, ..
-        } = table.head;
-        let verified = calls::fresh(
-            d,
-            fineness,
-            capacity,
-            &mut table.keys,
-            &mut table.sums,
-            &mut table.index,
-        );
-        let independent = guarded(|| {
-            let answer = independent::fresh(
-                d,
-                fineness,
-                capacity,
-                &mut other.keys,
-                &mut other.sums,
-                &mut other.index,
-            );
-            Answer {
-                number: answer.number,
-                head: ours(answer.head),
-            }
-        });
-        let mut found = Differences::of_answers(&verified, &independent);
-        found.table("sides:", table, &other);
-        if verified.number != 0 {
-            found.table("refused, before:", table, &before);
-        }
-        table.head = verified.head;
-        self.settle(Call::Fresh, verified.number, found, || before.to_string());
-        verified
+        let written = Written::by(table, Verified::fresh, Independent::fresh);
+        self.settle_whole(Call::Fresh, table, written, String::new)
     }
 
     /// Compares enter.
     pub fn enter(&mut self, table: &mut Table, list: &[i32]) -> Entered {
-        let before = table.clone();
-        let mut other = table.clone();
-        let verified = calls::enter(table.head, &mut table.keys, &mut table.sums, &mut table.index, list);
-        let independent = guarded(|| {
-            let head = theirs(other.head);
-            let answer = independent::enter(head, &mut other.keys, &mut other.sums, &mut other.index, list);
-            Entered {
-                taken: answer.taken,
-                number: answer.number,
-                head: ours(answer.head),
-            }
-        });
-        let mut found = Differences::of_answers(&verified, &independent);
-        found.table("sides:", table, &other);
-        if (1..=3).contains(&verified.number) {
-            found.table("refused, before:", table, &before);
+        let mut written = Written::by(
+            table,
+            |table| Verified::enter(table, list),
+            |table| Independent::enter(table, list),
+        );
+        let answer = written.answer;
+        if (1..=3).contains(&answer.number) {
+            written.must_be_unchanged(table);
         } else {
-            self.tally.note_size(verified.head.readings, verified.head.points);
+            self.tally.note_size(answer.head.readings, answer.head.points);
         }
-        table.head = verified.head;
-        self.tally.readings += verified.taken as u64;
-        self.settle(Call::Enter, verified.number, found, || {
+        table.head = answer.head;
+        self.tally.readings += answer.taken as u64;
+        let Written { found, before, .. } = written;
+        self.settle(Call::Enter, answer.number, found, || {
             format!("{before}\n    readings {list:?}")
         });
-        verified
+        answer
     }
 
     /// Compares merge. The source is only read.
     pub fn merge(&mut self, table: &mut Table, source: &Table) -> Answer {
-        let before = table.clone();
-        let (mut other, lent) = (table.clone(), source.clone());
-        let verified = calls::merge(
-            table.head,
-            &mut table.keys,
-            &mut table.sums,
-            &mut table.index,
-            lent.head,
-            &lent.keys,
-            &lent.sums,
-            &lent.index,
+        let lent = source.clone();
+        let mut written = Written::by(
+            table,
+            |table| Verified::merge(table, &lent),
+            |table| Independent::merge(table, source),
         );
-        let independent = guarded(|| independent_merge(&mut other, source));
-        let mut found = Differences::of_answers(&verified, &independent);
-        found.table("sides:", table, &other);
-        found.table("source, before:", &lent, source);
-        if verified.number != 0 {
-            found.table("refused, before:", table, &before);
-        } else {
-            self.tally.note_size(verified.head.readings, verified.head.points);
-        }
-        table.head = verified.head;
-        self.settle(Call::Merge, verified.number, found, || {
-            format!("target {before}\n  and source {source}")
-        });
-        verified
+        written.found.table("source, before:", &lent, source);
+        self.settle_whole(Call::Merge, table, written, || format!("and source {source}"))
+    }
+
+    /// Compares withdraw.
+    pub fn withdraw(&mut self, table: &mut Table, number: i32) -> Answer {
+        let written = Written::by(
+            table,
+            |table| Verified::withdraw(table, number),
+            |table| Independent::withdraw(table, number),
+        );
+        self.settle_whole(Call::Withdraw, table, written, || format!("number {number}"))
     }
 
     /// Compares list.
@@ -245,9 +158,8 @@ impl Check {
         let lent = table.clone();
         let before = list.to_vec();
         let mut other = list.to_vec();
-        let verified = calls::list(lent.head, &lent.keys, &lent.sums, &lent.index, list);
-        let independent =
-            guarded(|| independent::list(theirs(table.head), &table.keys, &table.sums, &table.index, &mut other));
+        let verified = Verified::list(&lent, list);
+        let independent = guarded(|| Independent::list(table, &mut other));
         let mut found = Differences::of_answers(&verified, &independent);
         found.slice("sides: list", list, &other);
         found.table("table, before:", &lent, table);
@@ -265,18 +177,8 @@ impl Check {
         let lent = table.clone();
         let before = sheets.clone();
         let mut other = sheets.clone();
-        let verified = calls::filter(
-            lent.head,
-            &lent.keys,
-            &lent.sums,
-            &lent.index,
-            &mut sheets.first,
-            &mut sheets.second,
-            &sheets.queries,
-            &mut sheets.values,
-            &mut sheets.codes,
-        );
-        let independent = guarded(|| independent_filter(table, &mut other));
+        let verified = Verified::filter(&lent, sheets);
+        let independent = guarded(|| Independent::filter(table, &mut other));
         let mut found = Differences::of_answers(&verified, &independent);
         found.sheets("sides:", sheets, &other);
         found.table("table, before:", &lent, table);
@@ -293,36 +195,27 @@ impl Check {
         verified
     }
 
-    /// Compares load into the table's slices. The table's head is what load hands back.
+    /// Compares load into the table's slices, told the room of the table's head. The table's head is then what load
+    /// hands back.
     pub fn load(&mut self, log: &[u8], table: &mut Table) -> Loaded {
-        let before = table.clone();
-        let mut other = table.clone();
-        let verified = calls::load(log, &mut table.keys, &mut table.sums, &mut table.index);
-        let independent = guarded(|| {
-            let answer = independent::load(log, &mut other.keys, &mut other.sums, &mut other.index);
-            Loaded {
-                number: answer.number,
-                offset: answer.offset,
-                head: ours(answer.head),
-            }
-        });
-        let mut found = Differences::of_answers(&verified, &independent);
-        found.table("sides:", table, &other);
+        let mut written = Written::by(
+            table,
+            |table| Verified::load(table, log),
+            |table| Independent::load(table, log),
+        );
+        let answer = written.answer;
         // A head of all 0 says that no table was made.
-        if verified.head == Head::default() {
-            found.table("no table, before:", table, &before);
+        if answer.head == Head::default() {
+            written.must_be_unchanged(table);
         }
-        table.head = verified.head;
-        self.tally.readings += verified.head.readings as u64;
-        self.tally.note_size(verified.head.readings, verified.head.points);
-        self.settle(Call::Load, verified.number, found, || {
-            let (keys, sums, index) = (&before.keys, &before.sums, &before.index);
-            format!(
-                "log {}\n    keys {keys:?}\n    sums {sums:?}\n    index {index:?}",
-                hexadecimal(log)
-            )
+        table.head = answer.head;
+        self.tally.readings += answer.head.readings as u64;
+        self.tally.note_size(answer.head.readings, answer.head.points);
+        let Written { found, before, .. } = written;
+        self.settle(Call::Load, answer.number, found, || {
+            format!("log {}\n    into {before}", hexadecimal(log))
         });
-        verified
+        answer
     }
 
     /// Compares report, and looks whether the buffer is untouched past the bytes of the report.
@@ -338,7 +231,7 @@ impl Check {
         if let Ok(bytes) = &independent {
             found.slice("sides: report", written, bytes);
         }
-        if rest.iter().any(|byte| *byte != filler) {
+        if !is_all(rest, filler) {
             found
                 .lines
                 .push(format!("the buffer has changed past the {length} bytes of the report"));
@@ -351,7 +244,7 @@ impl Check {
     pub fn report_without_room(&mut self, random: &mut Random, log: &[u8]) {
         let mut buffer = vec![0x5A; random.below(calls::REPORT_ROOM)];
         let length = calls::report(log, &mut buffer);
-        let untouched = buffer.iter().all(|byte| *byte == 0x5A);
+        let untouched = is_all(&buffer, 0x5A);
         self.expect(length == 0 && untouched, || {
             format!(
                 "a buffer of {} bytes: {length} bytes answered, untouched {untouched}",
@@ -374,35 +267,4 @@ impl Check {
         }
         number
     }
-}
-
-fn independent_merge(table: &mut Table, source: &Table) -> Answer {
-    let answer = independent::merge(
-        theirs(table.head),
-        &mut table.keys,
-        &mut table.sums,
-        &mut table.index,
-        theirs(source.head),
-        &source.keys,
-        &source.sums,
-        &source.index,
-    );
-    Answer {
-        number: answer.number,
-        head: ours(answer.head),
-    }
-}
-
-fn independent_filter(table: &Table, sheets: &mut Sheets) -> u8 {
-    independent::filter(
-        theirs(table.head),
-        &table.keys,
-        &table.sums,
-        &table.index,
-        &mut sheets.first,
-        &mut sheets.second,
-        &sheets.queries,
-        &mut sheets.values,
-        &mut sheets.codes,
-    )
 }

@@ -1,10 +1,13 @@
 //! The last family: it fails where the generators of the others never, or hardly ever, reached a case. Without it a
 //! generator that makes only refused or only easy inputs would pass silently.
 
+use crate::damage::DAMAGES;
 use crate::tally::{Call, Tally, CALLS, NUMBERS};
 
 /// Each refusal number must have come at least so often.
 const LEAST_REFUSALS: u64 = 50;
+/// Each damage that can be sure must have been made at least so often.
+const LEAST_DAMAGES: u64 = 200;
 /// Each call must have been done at least so often.
 const LEAST_ACCEPTED: u64 = 1_000;
 /// The greatest capacity and the greatest number of readings.
@@ -16,12 +19,13 @@ const GREATEST_READINGS: usize = 4_096;
 fn numbers_of(call: Call) -> &'static [usize] {
     match call {
         Call::Fresh => &[1, 2],
-        Call::Enter => &[1, 2, 3, 4, 5, 6, 7, 8],
-        Call::Merge => &[1, 2, 3, 7, 8, 9],
+        Call::Enter => &[1, 2, 3, 4, 5, 6, 7, 8, 20],
+        Call::Merge => &[1, 2, 3, 7, 8, 9, 20],
+        Call::Withdraw => &[1, 2, 3, 19],
         Call::List | Call::Filter => &[1, 2, 3],
-        Call::Load => &[1, 2, 4, 5, 6, 7, 8, 12, 13, 14, 15],
-        // 7 cannot come: 4,097 readings are longer than a log of the program may be.
-        Call::Report => &[1, 4, 5, 6, 8, 12, 13, 14, 15, 16],
+        Call::Load => &[1, 2, 4, 5, 6, 7, 8, 12, 13, 14, 15, 20],
+        // 7 cannot come: 2,049 readings are longer than a log of the program may be.
+        Call::Report => &[1, 4, 5, 6, 8, 12, 13, 14, 15, 16, 20],
         Call::Query => &[4, 5, 10],
     }
 }
@@ -36,6 +40,14 @@ pub fn lacking(total: &Tally) -> Vec<String> {
         }
         for number in 1..NUMBERS {
             lacks.extend(lack_of(total, call, name, number));
+        }
+    }
+    for damage in DAMAGES.iter().filter(|damage| damage.can_be_sure) {
+        let (name, times) = (damage.name, total.times_damaged(damage.name));
+        if times < LEAST_DAMAGES {
+            lacks.push(format!(
+                "the damage '{name}' was made {times} times, fewer than {LEAST_DAMAGES}"
+            ));
         }
     }
     if total.greatest_points != GREATEST_POINTS {

@@ -1,43 +1,84 @@
 //! Breaks the clauses of soundness. Each damage breaks one clause, and as far as that can be it keeps the others, so
-//! that a version without that clause would be found out. Several can be put on one table, one after the other; their
-//! sums wrap, because an earlier damage may have left any number.
+//! that a version without that clause would be found out; nearly all that document 01's clauses see, the book sees too.
+//! Several can be put on one table, one after the other; their sums wrap, because an earlier damage may have left any
+//! number.
 
+use crate::book_damage as book;
+use crate::keys::limit_key;
 use crate::positions::LIMIT;
 use crate::random::Random;
-use crate::table::{limit_key, Table, GREATEST_READINGS};
+use crate::table::{Table, GREATEST_READINGS};
 
-/// One way to break a sound table. It answers whether the table is surely unsound afterwards; it may leave the table
-/// as it was where the table is too small for it.
-pub type Damage = fn(&mut Random, &mut Table) -> bool;
+/// One way to break a sound table.
+#[derive(Clone, Copy)]
+pub struct Damage {
+    pub name: &'static str,
+    /// Answers whether a table that was sound is surely unsound now. The table may be left as it was where it is too
+    /// small for the damage.
+    pub make: fn(&mut Random, &mut Table) -> bool,
+    /// Whether it answers so on some table.
+    pub can_be_sure: bool,
+}
 
-/// All damages with their names.
-pub const DAMAGES: &[(&str, Damage)] = &[
-    ("m above C", points_above_capacity),
-    ("n above 4,096", readings_above_limit),
-    ("index entry above m", entry_above_points),
-    ("entry missing", entry_missing),
-    ("entry twice", entry_twice),
-    ("m one less", points_one_less),
-    ("m one more", points_one_more),
-    ("key twice", key_twice),
-    ("entries swapped", entries_swapped),
-    ("entry moved", entry_moved),
-    ("mixed remainders", mixed_remainders),
-    ("coordinate beyond", coordinate_beyond),
-    ("coordinate far beyond", coordinate_far_beyond),
-    ("mass 0 or less", mass_not_positive),
-    ("mass modulo 2^64", mass_round_64_bits),
-    ("great mass", great_mass),
-    ("value sum beyond", value_sum_beyond),
-    ("value sum far beyond", value_sum_far_beyond),
-    ("masses off the total", masses_off),
-    ("n off the total", readings_off),
-    ("nonsense index", nonsense_index),
-    ("index without an empty place", full_index),
+const fn sure(name: &'static str, make: fn(&mut Random, &mut Table) -> bool) -> Damage {
+    Damage {
+        name,
+        make,
+        can_be_sure: true,
+    }
+}
+
+const fn perhaps(name: &'static str, make: fn(&mut Random, &mut Table) -> bool) -> Damage {
+    Damage {
+        name,
+        make,
+        can_be_sure: false,
+    }
+}
+
+/// All damages.
+pub const DAMAGES: &[Damage] = &[
+    sure("m above C", points_above_capacity),
+    sure("n above 4,096", readings_above_limit),
+    sure("index entry above m", entry_above_points),
+    sure("entry missing", entry_missing),
+    sure("entry twice", entry_twice),
+    sure("m one less", points_one_less),
+    sure("m one more", points_one_more),
+    sure("key twice", key_twice),
+    perhaps("entries swapped", entries_swapped),
+    perhaps("entry moved", entry_moved),
+    sure("mixed remainders", mixed_remainders),
+    sure("coordinate beyond", coordinate_beyond),
+    sure("coordinate far beyond", coordinate_far_beyond),
+    sure("mass 0 or less", mass_not_positive),
+    sure("mass modulo 2^64", mass_round_64_bits),
+    sure("great mass", great_mass),
+    sure("value sum beyond", value_sum_beyond),
+    sure("value sum far beyond", value_sum_far_beyond),
+    sure("masses off the total", masses_off),
+    sure("n off the total", readings_off),
+    perhaps("nonsense index", nonsense_index),
+    sure("index without an empty place", full_index),
+    sure("n above B", book::readings_above_room),
+    sure("value beyond in the book", book::value_beyond),
+    sure("coordinate beyond in the book", book::coordinate_beyond),
+    sure("coordinates modulo 2^32 in the book", book::coordinates_round_32_bits),
+    sure("book off the hyperplane", book::off_the_hyperplane),
+    sure("number twice", book::number_twice),
+    sure("mass one off at two points", book::mass_off_at_two),
+    sure("value sum one off", book::value_sum_off),
+    sure("pairs exchanged", book::pairs_exchanged),
+    sure("touched point missing", book::touched_point_missing),
+    sure("touched point dropped", book::touched_point_dropped),
+    sure("untouched point stored", book::untouched_point_stored),
+    sure("another value in the book", book::another_value),
+    sure("another position in the book", book::another_position),
+    perhaps("values exchanged in the book", book::values_exchanged),
 ];
 
 /// A stored point's number, where there is one.
-fn some_point(random: &mut Random, table: &Table) -> Option<usize> {
+pub fn some_point(random: &mut Random, table: &Table) -> Option<usize> {
     (table.stored() > 0).then(|| random.below(table.stored()))
 }
 
@@ -55,7 +96,7 @@ fn points_above_capacity(random: &mut Random, table: &mut Table) -> bool {
     table.head.points > capacity
 }
 
-/// The masses are made to fit, so that nothing but n is wrong.
+/// The masses are made to fit, so that no other clause of document 01 is broken. No book has room for so many.
 fn readings_above_limit(random: &mut Random, table: &mut Table) -> bool {
     let readings = GREATEST_READINGS + 1 + random.below(3);
     if let Some(point) = some_point(random, table) {

@@ -1,5 +1,5 @@
-//! Writes logs: items of document 01's kinds, and items that are not listed. What kind an item says and what follows
-//! it can be chosen freely, so that every refusal of the reader can be made.
+//! Writes logs: items of the kinds that are listed, and items that are not. What kind an item says and what follows it
+//! can be chosen freely, so that every refusal of the reader can be made.
 
 use crate::positions::Scene;
 use crate::random::Random;
@@ -24,9 +24,14 @@ impl Log {
         self.bytes.extend(capacity.to_le_bytes());
     }
 
-    /// Appends a reading; its dimension follows from how many numbers it has.
-    pub fn reading(&mut self, reading: &[i32]) {
-        self.item(0x10 + (reading.len() - 2) as u8, reading);
+    /// Appends a reading of the book's form without its number; the dimension follows from how many numbers it has.
+    pub fn unnumbered(&mut self, reading: &[i32]) {
+        self.item(0x10 + (reading.len() - 3) as u8, &reading[1..]);
+    }
+
+    /// Appends a reading of the book's form with its number.
+    pub fn numbered(&mut self, reading: &[i32]) {
+        self.item(0x70 + (reading.len() - 3) as u8, reading);
     }
 
     /// Appends a query; its dimension follows from how many numbers it has.
@@ -40,19 +45,31 @@ impl Log {
             .extend(numbers.iter().flat_map(|number| number.to_le_bytes()));
     }
 
+    /// Appends a reading of the scene, with its number or without.
+    pub fn any_reading(&mut self, random: &mut Random, scene: &mut Scene) {
+        let reading = scene.reading(random);
+        if scene.goes_unnumbered(random) {
+            self.unnumbered(&reading);
+        } else {
+            self.numbered(&reading);
+        }
+    }
+
     /// Appends a reading or a query of the scene, about three readings for each query.
     pub fn any_item(&mut self, random: &mut Random, scene: &mut Scene) {
         if random.once_in(4) {
             self.query(&scene.query(random));
         } else {
-            self.reading(&scene.reading(random));
+            self.any_reading(random, scene);
         }
     }
 
     /// Appends queries and readings of the scene that fill the log to just this length, which must be some thousands:
-    /// the lengths of a query and of a reading have no common divisor, so whole items meet every such length.
+    /// the lengths of a query and of a reading have no common divisor, numbered or not, so whole items meet every such
+    /// length. The readings are all numbered, or none is.
     pub fn fill_to(&mut self, random: &mut Random, scene: &mut Scene, length: usize) {
-        let (query, reading) = (1 + 4 * (scene.d + 1), 1 + 4 * (scene.d + 2));
+        let numbered = random.once_in(2);
+        let (query, reading) = (1 + 4 * (scene.d + 1), 1 + 4 * (scene.d + 2 + usize::from(numbered)));
         let rest = length - self.bytes.len();
         let mut queries = random.below(rest / query / 4);
         while !(rest - queries * query).is_multiple_of(reading) {
@@ -62,7 +79,12 @@ impl Log {
             self.query(&scene.query(random));
         }
         while self.bytes.len() < length {
-            self.reading(&scene.reading(random));
+            let reading = scene.reading(random);
+            if numbered {
+                self.numbered(&reading);
+            } else {
+                self.unnumbered(&reading);
+            }
         }
     }
 }
@@ -70,19 +92,38 @@ impl Log {
 /// The worked log of document 01, 49 bytes.
 pub fn worked_log() -> Log {
     let mut log = Log::of_settings(1, 2, 8);
-    log.reading(&[3, -3, 10]);
-    log.reading(&[2, -2, 4]);
+    log.unnumbered(&[0, 3, -3, 10]);
+    log.unnumbered(&[1, 2, -2, 4]);
     log.query(&[4, -4]);
     log.query(&[100, -100]);
     log
 }
 
-/// A log of several hundred bytes with readings and queries between one another.
+/// The worked log with a number before its second reading: 1, which an unnumbered one behind it does not get.
+pub fn worked_log_with_a_number() -> Log {
+    let mut log = Log::of_settings(1, 2, 8);
+    log.unnumbered(&[0, 3, -3, 10]);
+    log.numbered(&[1, 2, -2, 4]);
+    log.unnumbered(&[2, 2, -2, 5]);
+    log.query(&[4, -4]);
+    log
+}
+
+/// A log of several hundred bytes with queries and readings of both kinds between one another. It is taken whole.
 pub fn mixed_log(random: &mut Random, d: usize) -> Log {
     let mut log = Log::of_settings(d, 3, 60);
-    let mut scene = Scene::within(d, 3, 20, 0);
-    for _ in 0..20 {
-        log.any_item(random, &mut scene);
+    let mut scene = Scene::within(random, d, 3, 20, 0);
+    for i in 0..20 {
+        match i % 4 {
+            0 => log.query(&scene.query(random)),
+            1 => log.unnumbered(&scene.sound_reading(random)),
+            // Unnumbered readings get 0 to 4 here.
+            _ => {
+                let mut reading = scene.sound_reading(random);
+                reading[0] = random.pick(&[-1, 1]) * (100 + i);
+                log.numbered(&reading);
+            }
+        }
     }
     log
 }

@@ -1,16 +1,23 @@
-//! Compares the verified calls with the independent version of document 01, over random, edge and damaged inputs of
+//! Compares the verified calls with the independent version, over random, edge and damaged inputs of
 //! fixed seeds. Without arguments it runs every family and ends with the verdict; with a family's name, and a case's
 //! number, it runs that alone.
 
+mod book_damage;
 mod case;
 mod check;
 mod coverage;
 mod damage;
+mod differences;
 mod families;
 mod guard;
+mod keys;
 mod logs;
+mod numbers;
 mod positions;
 mod random;
+mod sheets;
+mod sides;
+mod sound;
 mod table;
 mod tally;
 

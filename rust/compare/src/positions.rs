@@ -1,17 +1,21 @@
 //! Makes positions, readings and queries: near one another or far apart, on lattice points, with equal coordinates, at
-//! the limits, and with each fault that a refusal number is about.
+//! the limits, and with each fault that a refusal number is about. A reading has the book's form: its number, d + 1
+//! coordinates, then the value.
 
+use crate::numbers::Numbers;
 use crate::random::Random;
 
 /// Coordinates and values go from minus this to this.
 pub const LIMIT: i64 = 1_000_000;
 
-/// Where the readings and queries of a case lie, and how often they have a fault.
+/// Where the readings and queries of a case lie, how they are numbered, and how often they have a fault.
 pub struct Scene {
     pub d: usize,
     pub fineness: u32,
+    pub numbers: Numbers,
     reach: i64,
     fault_once_in: usize,
+    unnumbered_once_in: usize,
     earlier: Vec<Vec<i32>>,
 }
 
@@ -19,26 +23,66 @@ impl Scene {
     /// A scene of a random reach. `fault_once_in` 0 makes no faults.
     pub fn new(random: &mut Random, d: usize, fineness: u32, fault_once_in: usize) -> Scene {
         let reach = random.pick(&[2, 6, 20, 20, 100, 500, 30_000, LIMIT]);
-        Scene::within(d, fineness, reach, fault_once_in)
+        Scene::within(random, d, fineness, reach, fault_once_in)
     }
 
-    /// A scene of the given reach.
-    pub fn within(d: usize, fineness: u32, reach: i64, fault_once_in: usize) -> Scene {
+    /// A scene of the given reach. The readings of a log are then all numbered, or none of them, or some.
+    pub fn within(random: &mut Random, d: usize, fineness: u32, reach: i64, fault_once_in: usize) -> Scene {
+        let unnumbered_once_in = random.pick(&[0, 0, 1, 1, 2, 5]);
+        let far = unnumbered_once_in > 1 && random.below(4) > 0;
         Scene {
             d,
             fineness,
+            numbers: if far {
+                Numbers::far_from_0(random)
+            } else {
+                Numbers::new(random)
+            },
             reach,
             fault_once_in,
+            unnumbered_once_in,
             earlier: Vec::new(),
         }
     }
 
-    /// A reading: d + 1 coordinates, then the value.
+    /// The same scene with faults so often.
+    pub fn with_faults(mut self, fault_once_in: usize) -> Scene {
+        self.fault_once_in = fault_once_in;
+        self
+    }
+
+    /// Whether the next reading of a log has no number of its own.
+    pub fn goes_unnumbered(&self, random: &mut Random) -> bool {
+        random.once_in(self.unnumbered_once_in)
+    }
+
+    /// A reading: its number, d + 1 coordinates, then the value. Each of the three may have a fault, and one of a number
+    /// is that another reading has it too.
     pub fn reading(&mut self, random: &mut Random) -> Vec<i32> {
-        let mut reading = self.query(random);
+        let number = self.number(random);
+        let position = self.query(random);
         let faulty = random.once_in(self.fault_once_in);
-        reading.push(if faulty { faulty_value(random) } else { value(random) });
-        reading
+        let value = if faulty { faulty_value(random) } else { value(random) };
+        entry(number, &position, value)
+    }
+
+    fn number(&mut self, random: &mut Random) -> i32 {
+        let again = random.once_in(self.fault_once_in);
+        let earlier = again.then(|| self.numbers.earlier(random)).flatten();
+        earlier.unwrap_or_else(|| self.numbers.another(random))
+    }
+
+    /// A reading without a fault, whatever the scene's are.
+    pub fn sound_reading(&mut self, random: &mut Random) -> Vec<i32> {
+        let position = self.sound_position(random);
+        self.earlier.push(position.clone());
+        self.reading_at(random, &position)
+    }
+
+    /// A reading at this position, with a number that was not given before.
+    pub fn reading_at(&mut self, random: &mut Random, position: &[i32]) -> Vec<i32> {
+        let number = self.numbers.another(random);
+        entry(number, position, value(random))
     }
 
     /// A query: d + 1 coordinates.
@@ -49,6 +93,11 @@ impl Scene {
             spoil(random, &mut position);
         }
         position
+    }
+
+    /// So many readings without a fault.
+    pub fn sound_readings(&mut self, random: &mut Random, count: usize) -> Vec<Vec<i32>> {
+        (0..count).map(|_| self.sound_reading(random)).collect()
     }
 
     /// Several readings, one after the other.
@@ -102,6 +151,11 @@ impl Scene {
         position.push(-position.iter().sum::<i32>());
         position
     }
+}
+
+/// A reading in the book's form.
+pub fn entry(number: i32, position: &[i32], value: i32) -> Vec<i32> {
+    [&[number], position, &[value]].concat()
 }
 
 /// A position anywhere within the limits, most likely far from every other.

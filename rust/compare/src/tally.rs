@@ -1,6 +1,8 @@
 //! Counts what the comparison met: how often each call was done and refused with each number, how many readings and
-//! queries there were, and the greatest table. Each family prints its own counts, and their sum decides the coverage.
+//! queries there were, the greatest table, and how often each damage was surely made. Each family prints its own counts,
+//! and their sum decides the coverage.
 
+use std::collections::BTreeMap;
 use std::fmt;
 
 /// The calls that are compared. `Query` stands for the code of one single query.
@@ -9,6 +11,7 @@ pub enum Call {
     Fresh,
     Enter,
     Merge,
+    Withdraw,
     List,
     Filter,
     Load,
@@ -17,10 +20,11 @@ pub enum Call {
 }
 
 /// Every call with its name.
-pub const CALLS: [(Call, &str); 8] = [
+pub const CALLS: [(Call, &str); 9] = [
     (Call::Fresh, "fresh"),
     (Call::Enter, "enter"),
     (Call::Merge, "merge"),
+    (Call::Withdraw, "withdraw"),
     (Call::List, "list"),
     (Call::Filter, "filter"),
     (Call::Load, "load"),
@@ -43,6 +47,7 @@ pub struct Tally {
     /// The greatest number of points in an accepted table.
     pub greatest_points: usize,
     numbers: [[u64; NUMBERS]; CALLS.len()],
+    damages: BTreeMap<&'static str, u64>,
 }
 
 impl Tally {
@@ -55,6 +60,16 @@ impl Tally {
     pub fn note_size(&mut self, readings: usize, points: usize) {
         self.greatest_readings = self.greatest_readings.max(readings);
         self.greatest_points = self.greatest_points.max(points);
+    }
+
+    /// Counts a damage that has surely made a table unsound.
+    pub fn count_damage(&mut self, name: &'static str) {
+        *self.damages.entry(name).or_default() += 1;
+    }
+
+    /// How often a damage was surely made.
+    pub fn times_damaged(&self, name: &str) -> u64 {
+        self.damages.get(name).copied().unwrap_or(0)
     }
 
     /// How often a call answered a number.
@@ -89,6 +104,9 @@ impl Tally {
         self.note_size(other.greatest_readings, other.greatest_points);
         for (mine, others) in self.numbers.iter_mut().flatten().zip(other.numbers.iter().flatten()) {
             *mine += others;
+        }
+        for (name, times) in &other.damages {
+            *self.damages.entry(name).or_default() += times;
         }
     }
 }

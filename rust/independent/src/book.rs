@@ -1,12 +1,12 @@
 //! The book of ticket 8: the readings that a table holds, in order of entry, merged ones behind, each under a number of
 //! its own. It is kept as a list of entries beside the set of their numbers, so that a number held already is seen
-//! without walking the list.
+//! without walking the list, and beside the lowest number that an unnumbered reading would get.
 
 use std::collections::BTreeSet;
 
-use crate::booked_table::{entry_length, BookedHead};
 use crate::position::{position_judged, value_judged};
 use crate::store::Store;
+use crate::table::{entry_length, Head};
 
 /// A reading with its number.
 #[derive(Clone, Debug, PartialEq, Eq)]
@@ -43,20 +43,24 @@ impl Entry {
 }
 
 /// A table's book.
-#[derive(Clone, Debug)]
+#[derive(Clone, Debug, Default)]
 pub(crate) struct Book {
     entries: Vec<Entry>,
     /// The numbers of all entries. They are fewer than the entries where two have the same one.
     held: BTreeSet<i32>,
+    /// All numbers from 0 up to this one are held, and this one is not.
+    lowest: i32,
 }
 
 impl Book {
     /// The first n entries of a lent book. What stands past them counts for nothing.
-    pub fn of_table(head: &BookedHead, lent: &[i32]) -> Book {
+    pub fn of_table(head: &Head, lent: &[i32]) -> Book {
+        let mut book = Book::default();
         let stretches = lent.chunks_exact(entry_length(head.d));
-        let entries: Vec<Entry> = stretches.take(head.readings).map(Entry::of_numbers).collect();
-        let held = entries.iter().map(|entry| entry.number).collect();
-        Book { entries, held }
+        for stretch in stretches.take(head.readings) {
+            book.append(Entry::of_numbers(stretch));
+        }
+        book
     }
 
     pub fn entries(&self) -> &[Entry] {
@@ -83,22 +87,26 @@ impl Book {
     }
 
     /// The lowest number from 0 up that is not held. n entries cannot hold all of 0 to n.
-    fn lowest_number(&self) -> i32 {
-        let mut candidates = 0..;
-        let free = candidates.find(|&number| !self.holds(number));
-        free.expect("n is at most 4,096")
+    pub fn lowest_number(&self) -> i32 {
+        self.lowest
     }
 
-    /// Puts a reading behind the others. Its number is not held.
+    /// Puts a reading behind the others.
     pub fn append(&mut self, entry: Entry) {
         self.held.insert(entry.number);
         self.entries.push(entry);
+        while self.holds(self.lowest) {
+            self.lowest += 1;
+        }
     }
 
     /// Takes the reading of this number out, and the book closes up. `None` where the number is not held.
     pub fn remove(&mut self, number: i32) -> Option<Entry> {
         let place = self.entries.iter().position(|entry| entry.number == number)?;
         self.held.remove(&number);
+        if number >= 0 {
+            self.lowest = self.lowest.min(number);
+        }
         Some(self.entries.remove(place))
     }
 
@@ -114,22 +122,13 @@ impl Book {
     }
 }
 
-/// The lowest number from 0 up that the book of a sound table does not hold, at most n. A reading that comes without a
-/// number gets it.
-pub fn lowest_number(head: BookedHead, book: &[i32]) -> i32 {
-    Book::of_table(&head, book).lowest_number()
-}
-
 #[cfg(test)]
 mod tests {
     use super::*;
 
     /// A book of dimension 1 and these numbers, all of them readings at (0, 0) with value 1.
     fn book_of(numbers: &[i32]) -> Book {
-        let mut book = Book {
-            entries: Vec::new(),
-            held: BTreeSet::new(),
-        };
+        let mut book = Book::default();
         for &number in numbers {
             book.append(Entry::of_numbers(&[number, 0, 0, 1]));
         }
@@ -190,5 +189,16 @@ mod tests {
         ] {
             assert_eq!(book_of(numbers).lowest_number(), lowest, "{numbers:?}");
         }
+    }
+
+    #[test]
+    fn the_lowest_number_after_removals() {
+        let mut book = book_of(&[0, 1, -5, 2, 9]);
+        for (removed, lowest) in [(9, 3), (-5, 3), (1, 1), (2, 1), (0, 0)] {
+            assert!(book.remove(removed).is_some());
+            assert_eq!(book.lowest_number(), lowest, "after {removed}");
+        }
+        book.append(Entry::of_numbers(&[0, 0, 0, 1]));
+        assert_eq!(book.lowest_number(), 1);
     }
 }

@@ -1,24 +1,22 @@
-//! An independent version of document 01, and of the book of document 02's ticket 8, written from the documents alone.
+//! An independent version of document 01 with ticket 8 of document 02, written from the documents alone.
 //!
 //! Its worth is that it goes another way than a fast implementation would. Weights come from the definition of the
 //! spread, without sorting a residual. The points stand in a sorted map, and answers are sums over all of them.
-//! Soundness is tested clause by clause. Where this crate and `vimrothi` agree byte for byte, two readings of the
-//! document agree.
-//!
-//! The calls on tables with a book stand beside document 01's, under names of their own.
+//! Soundness is tested clause by clause, and the sums are held to the book by pouring its readings anew. Where this
+//! crate and `vimrothi` agree byte for byte, two readings of the documents agree.
 
 #![forbid(unsafe_code)]
 #![warn(missing_docs)]
 
+mod answers;
 mod blur;
 mod book;
 mod book_soundness;
-mod booked;
-mod booked_store;
-mod booked_table;
 mod calls;
+mod contents;
 mod loading;
 mod log;
+mod memory;
 mod points;
 mod position;
 mod refusal;
@@ -32,12 +30,11 @@ mod table;
 mod weights;
 mod withdraw;
 
-pub use book::lowest_number;
-pub use booked::{enter_with_book, fresh_with_book, merge_with_book};
-pub use booked_table::{BookedAnswer, BookedEntered, BookedHead};
-pub use calls::{enter, filter, fresh, list, merge};
+pub use answers::{filter, list};
+pub use calls::{enter, fresh, merge};
 pub use loading::load;
 pub use report::report;
 pub use store::Store;
 pub use table::{Answer, Entered, Head, Loaded};
+pub use weights::{weighted_points, Weighted};
 pub use withdraw::withdraw;

@@ -3,7 +3,7 @@
 
 /// A call that is done, or a query that is answered.
 pub const DONE: u8 = 0;
-/// d, S or C out of range, or the room B of a book.
+/// d, S, C or B out of range.
 pub const SETTINGS: u8 = 1;
 /// A lent slice of another length than the settings give, or a list that is not whole items.
 pub const LENGTH: u8 = 2;
@@ -15,7 +15,7 @@ pub const COORDINATE: u8 = 4;
 pub const OFF_HYPERPLANE: u8 = 5;
 /// A value beyond ±1,000,000.
 pub const VALUE: u8 = 6;
-/// More than 4,096 readings would be held, or in a table with a book more than B.
+/// More than B readings would be held.
 pub const READINGS: u8 = 7;
 /// More than C points would be stored.
 pub const POINTS: u8 = 8;
@@ -37,5 +37,5 @@ pub const CUT_SHORT: u8 = 15;
 pub const PROGRAM: u8 = 16;
 /// Withdraw: number not held.
 pub const NOT_HELD: u8 = 19;
-/// Enter and merge with a book: number held already.
+/// Enter, merge and loading: number held already.
 pub const HELD: u8 = 20;

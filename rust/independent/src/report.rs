@@ -5,11 +5,14 @@ use crate::loading::applied;
 use crate::log::{parse, Content, Parsed, Refusal};
 use crate::refusal;
 use crate::store::Store;
+use crate::table::Head;
 
 /// The program takes logs up to this length.
 const MOST_BYTES: usize = 16_384;
 /// The program takes capacities up to this.
 const MOST_CAPACITY: usize = 512;
+/// B of the program.
+const BOOK_ROOM: usize = 2_048;
 
 /// The whole output of the program for a log.
 pub fn report(log: &[u8]) -> Vec<u8> {
@@ -22,10 +25,11 @@ pub fn report(log: &[u8]) -> Vec<u8> {
 
 fn answered(log: &[u8]) -> Result<String, Refusal> {
     let parsed = parsed_for_program(log)?;
-    let (store, refusal) = applied(&parsed);
+    let fresh = Head::fresh(parsed.settings, BOOK_ROOM);
+    let (contents, refusal) = applied(&parsed, &fresh);
     match refusal {
         Some(refusal) => Err(refusal),
-        None => Ok(lines(&parsed, &store)),
+        None => Ok(lines(&parsed, &contents.head(&fresh), &contents.store)),
     }
 }
 
@@ -45,8 +49,8 @@ fn parsed_for_program(log: &[u8]) -> Result<Parsed, Refusal> {
     Ok(parsed)
 }
 
-fn lines(parsed: &Parsed, store: &Store) -> String {
-    let head = store.head(parsed.settings.capacity);
+/// Nothing of the book is printed.
+fn lines(parsed: &Parsed, head: &Head, store: &Store) -> String {
     let mut text = format!("HEAD {} {} {} {}\n", head.d, head.fineness, head.readings, head.points);
     for (coordinates, mass, value_sum) in store.listing() {
         text += &format!("POINT {} {mass} {value_sum}\n", spaced(&coordinates));

@@ -1,5 +1,5 @@
-//! The settings d, S and C with their ranges, and the limits that hold for every table. Nothing is multiplied before
-//! the ranges are tested, so any number at all may be given.
+//! The settings d, S and C and the room B with their ranges, and the limits that hold for every table. Nothing is
+//! multiplied before the ranges are tested, so any number at all may be given.
 
 use crate::refusal;
 
@@ -11,8 +11,10 @@ const MOST_FINENESS: u32 = 64;
 const MOST_CAPACITY: usize = 8_192;
 /// The greatest number of readings in a table.
 pub const MOST_READINGS: usize = 4_096;
+/// The greatest room of a book: no table holds more readings.
+const MOST_ROOM: usize = MOST_READINGS;
 
-/// A table's settings, in range or not.
+/// A table's settings as a log has them, in range or not.
 #[derive(Clone, Copy, Debug, PartialEq, Eq)]
 pub struct Settings {
     /// The dimension d.
@@ -29,11 +31,20 @@ impl Settings {
         let in_range = (1..=MOST_DIMENSION).contains(&self.d)
             && (1..=MOST_FINENESS).contains(&self.fineness)
             && (1..=MOST_CAPACITY).contains(&self.capacity);
-        if in_range {
-            Ok(())
-        } else {
-            Err(refusal::SETTINGS)
-        }
+        range_judged(in_range)
+    }
+}
+
+/// Refuses a book's room out of range with 1.
+pub fn room_judged(room: usize) -> Result<(), u8> {
+    range_judged((1..=MOST_ROOM).contains(&room))
+}
+
+fn range_judged(in_range: bool) -> Result<(), u8> {
+    if in_range {
+        Ok(())
+    } else {
+        Err(refusal::SETTINGS)
     }
 }
 
@@ -54,6 +65,7 @@ mod tests {
     fn both_ends_of_each_range_are_taken() {
         assert_eq!(judged(1, 1, 1), Ok(()));
         assert_eq!(judged(5, 64, 8_192), Ok(()));
+        assert_eq!([1, 4_096].map(room_judged), [Ok(()), Ok(())]);
     }
 
     #[test]
@@ -61,11 +73,13 @@ mod tests {
         for (d, fineness, capacity) in [(0, 1, 1), (6, 1, 1), (1, 0, 1), (1, 65, 1), (1, 1, 0), (1, 1, 8_193)] {
             assert_eq!(judged(d, fineness, capacity), Err(1), "{d} {fineness} {capacity}");
         }
+        assert_eq!([0, 4_097].map(room_judged), [Err(1), Err(1)]);
     }
 
     #[test]
     fn the_greatest_numbers_are_refused() {
         assert_eq!(judged(usize::MAX, u32::MAX, usize::MAX), Err(1));
+        assert_eq!(room_judged(usize::MAX), Err(1));
     }
 
     #[test]

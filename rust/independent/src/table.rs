@@ -1,10 +1,15 @@
-//! A table as it is lent: the head by value and the three slices. The answers of the calls stand here too, since each
-//! hands a head back.
+//! A table as it is lent: the head by value, in which the book's room B stands after C, and the four slices. The answers
+//! of the calls stand here too, since each hands a head back.
 
 use crate::refusal;
-use crate::settings::Settings;
+use crate::settings::{room_judged, Settings};
 
-/// A table's head: the settings, and the numbers of readings and of points.
+/// How many numbers a reading has in a book and in a list: its own number, d+1 coordinates and the value.
+pub(crate) fn entry_length(d: usize) -> usize {
+    d + 3
+}
+
+/// A table's head: the settings, the book's room, and the numbers of readings and of points.
 #[derive(Clone, Copy, Debug, Default, PartialEq, Eq)]
 pub struct Head {
     /// d, 1 to 5.
@@ -13,7 +18,9 @@ pub struct Head {
     pub fineness: u32,
     /// C, 1 to 8,192.
     pub capacity: usize,
-    /// n, at most 4,096.
+    /// B, 1 to 4,096.
+    pub room: usize,
+    /// n, at most B. The book has so many entries.
     pub readings: usize,
     /// m, at most C.
     pub points: usize,
@@ -21,22 +28,26 @@ pub struct Head {
 
 impl Head {
     /// The head of a table without readings.
-    pub(crate) fn fresh(settings: Settings) -> Head {
+    pub(crate) fn fresh(settings: Settings, room: usize) -> Head {
         Head {
             d: settings.d,
             fineness: settings.fineness,
             capacity: settings.capacity,
+            room,
             readings: 0,
             points: 0,
         }
     }
 
-    pub(crate) fn settings(&self) -> Settings {
-        Settings {
+    /// Refuses settings or a room out of range with 1.
+    pub(crate) fn judged(&self) -> Result<(), u8> {
+        let settings = Settings {
             d: self.d,
             fineness: self.fineness,
             capacity: self.capacity,
-        }
+        };
+        settings.judged()?;
+        room_judged(self.room)
     }
 }
 
@@ -47,6 +58,19 @@ pub struct Answer {
     pub number: u8,
     /// The new head, or the one given.
     pub head: Head,
+}
+
+impl Answer {
+    /// The answer of a call that was given this head: it was done, which made another of it, or it was refused.
+    pub(crate) fn of(given: Head, outcome: Result<Head, u8>) -> Answer {
+        match outcome {
+            Ok(head) => Answer {
+                number: refusal::DONE,
+                head,
+            },
+            Err(number) => Answer { number, head: given },
+        }
+    }
 }
 
 /// How many readings were taken, the number, 0 where all were, and the new head.
@@ -71,20 +95,22 @@ pub struct Loaded {
     pub head: Head,
 }
 
-/// The three slices of a table, lent for reading.
+/// The four slices of a table, lent for reading.
 #[derive(Clone, Copy)]
 pub(crate) struct Lent<'a> {
     pub keys: &'a [i32],
     pub sums: &'a [i64],
     pub index: &'a [u16],
+    pub book: &'a [i32],
 }
 
 impl<'a> Lent<'a> {
-    /// Refuses slices of other lengths than the settings give with 2. The settings are in range.
-    pub fn lengths_judged(&self, settings: Settings) -> Result<(), u8> {
-        let as_given = self.keys.len() == settings.d * settings.capacity
-            && self.sums.len() == 2 * settings.capacity
-            && self.index.len() == 2 * settings.capacity;
+    /// Refuses slices of other lengths than the settings and the room give with 2. Both are in range.
+    pub fn lengths_judged(&self, head: &Head) -> Result<(), u8> {
+        let as_given = self.keys.len() == head.d * head.capacity
+            && self.sums.len() == 2 * head.capacity
+            && self.index.len() == 2 * head.capacity
+            && self.book.len() == head.room * entry_length(head.d);
         length_judged(as_given)
     }
 

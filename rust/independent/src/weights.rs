@@ -23,13 +23,17 @@ impl Weighted {
 
 /// Every point with weight above 0 for the position, in ascending remainder.
 pub fn weighted_points(fineness: u32, position: &[i32]) -> Vec<Weighted> {
-    let remainders = 0..position.len() as i32;
-    let candidates = remainders.flat_map(|remainder| candidates(fineness, position, remainder));
-    let weighted = candidates.map(|point| Weighted {
-        weight: weight(fineness, position, &point),
-        point,
-    });
-    weighted.filter(|weighted| weighted.weight > 0).collect()
+    let mut found = Vec::new();
+    for remainder in 0..position.len() as i32 {
+        let mut walk = Walk {
+            fineness,
+            position,
+            remainder,
+            beginning: Vec::with_capacity(position.len()),
+        };
+        walk.onward(&mut found);
+    }
+    found
 }
 
 /// The weight of a point for a position: W - spread where that is above 0, and 0 otherwise.
@@ -58,36 +62,51 @@ fn residuals<'a>(fineness: u32, position: &'a [i32], point: &'a [i32]) -> impl I
     pairs.map(move |(&x, &y)| i64::from(x) - fineness * i64::from(y))
 }
 
-/// The lattice points of one remainder that are near the position. A beginning whose own spread is W or more is given
-/// up at once, since further coordinates can only widen it.
-fn candidates(fineness: u32, position: &[i32], remainder: i32) -> Vec<Vec<i32>> {
-    let d = position.len() - 1;
-    let total = weight_total(d, fineness);
-    let mut beginnings = vec![Vec::new()];
-    for &x in &position[..d] {
-        let choices = near_coordinates(fineness, x, d as i32 + 1, remainder);
-        let longer = beginnings.iter().flat_map(|beginning| lengthened(beginning, &choices));
-        beginnings = longer
-            .filter(|longer| spread(fineness, position, longer) < total)
-            .collect();
+/// A walk over the lattice points of one remainder that are near the position, coordinate by coordinate.
+struct Walk<'a> {
+    fineness: u32,
+    position: &'a [i32],
+    remainder: i32,
+    /// The coordinates chosen so far.
+    beginning: Vec<i32>,
+}
+
+impl Walk<'_> {
+    /// Chooses the next coordinate in every way, or weighs the point where only the last one is left. A beginning whose
+    /// own spread is W or more is given up at once, since further coordinates can only widen it.
+    fn onward(&mut self, found: &mut Vec<Weighted>) {
+        let (place, d) = (self.beginning.len(), self.position.len() - 1);
+        if place == d {
+            found.extend(self.weighed());
+            return;
+        }
+        let total = weight_total(d, self.fineness);
+        for y in near_coordinates(self.fineness, self.position[place], d as i32 + 1, self.remainder) {
+            self.beginning.push(y);
+            if spread(self.fineness, self.position, &self.beginning) < total {
+                self.onward(found);
+            }
+            self.beginning.pop();
+        }
     }
-    let points = beginnings.iter().map(|kept| with_last_coordinate(kept));
-    points.filter(|point| near(fineness, position, point)).collect()
+
+    /// The point of the d chosen coordinates, where its weight is above 0.
+    fn weighed(&self) -> Option<Weighted> {
+        let point = with_last_coordinate(&self.beginning);
+        let weight = weight(self.fineness, self.position, &point);
+        (weight > 0).then_some(Weighted { point, weight })
+    }
 }
 
 /// The whole numbers y of the given remainder on division by d+1, here `divisor`, for which x - S·y is nearer to 0
 /// than W = (d+1)·S. Such a y is at most d+1 away from x divided by S, rounded down.
-fn near_coordinates(fineness: u32, x: i32, divisor: i32, remainder: i32) -> Vec<i32> {
+fn near_coordinates(fineness: u32, x: i32, divisor: i32, remainder: i32) -> impl Iterator<Item = i32> {
     let total = divisor * fineness as i32;
     let middle = x.div_euclid(fineness as i32);
-    let around = middle - divisor..=middle + divisor;
-    let alike = around.filter(|y| y.rem_euclid(divisor) == remainder);
-    alike.filter(|y| (x - fineness as i32 * y).abs() < total).collect()
-}
-
-fn lengthened(beginning: &[i32], choices: &[i32]) -> Vec<Vec<i32>> {
-    let with = |&choice: &i32| beginning.iter().copied().chain([choice]).collect();
-    choices.iter().map(with).collect()
+    let least = middle - divisor;
+    let first = least + (remainder - least).rem_euclid(divisor);
+    let alike = (first..=middle + divisor).step_by(divisor as usize);
+    alike.filter(move |y| (x - fineness as i32 * y).abs() < total)
 }
 
 #[cfg(test)]
@@ -117,9 +136,10 @@ mod tests {
     #[test]
     fn a_negative_coordinate_leaves_a_remainder_that_is_not_negative() {
         assert_eq!(weights_of(2, &[-2, -2, 4]), [(vec![-1, -1, 2], 6)]);
-        assert_eq!(near_coordinates(1, -4, 3, 2), [-4]);
-        assert_eq!(near_coordinates(1, -1, 3, 2), [-1]);
-        assert_eq!(near_coordinates(2, -1, 3, 2), [-1, 2]);
+        let near = |fineness: u32, x: i32| near_coordinates(fineness, x, 3, 2).collect::<Vec<_>>();
+        assert_eq!(near(1, -4), [-4]);
+        assert_eq!(near(1, -1), [-1]);
+        assert_eq!(near(2, -1), [-1, 2]);
     }
 
     /// Positions from a simple generator: small ones, where ties are common, and ones at the ends of the range.

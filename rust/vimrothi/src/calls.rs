@@ -1,30 +1,44 @@
-//! Document 01's calls over lent slices, as safe functions. Each does its work or refuses with a number, for every
-//! input: there is nothing to test before a call. [`Table`](crate::Table) is made of them, with memory of its own.
+//! The calls of documents 01 and 02 over lent slices, as safe functions. Each does its work or refuses with a number,
+//! for every input: there is nothing to test before a call. [`Table`](crate::Table) is made of them, with memory of its
+//! own.
 //!
-//! A table here is a [`Head`] by value and three lent slices: keys (d·C numbers), sums (2·C: mass, then value sum) and
-//! index (2·C). Numbers are tested in the order in which each call names them, and the first that is met is answered.
-//! A call refused as a whole hands back the head that it was given and changes no lent memory.
-//! [`numbers`](crate::numbers) has the names of the numbers, and [`words`](crate::words) the words of each.
+//! A table here is a [`Head`] by value and four lent slices: keys (d·C numbers), sums (2·C: mass, then value sum),
+//! index (2·C) and book ((d + 3)·B: the readings held, each its number, d + 1 coordinates and the value). Numbers are
+//! tested in the order in which each call names them, and the first that is met is answered. A call refused as a whole
+//! hands back the head that it was given and changes no lent memory. [`numbers`](crate::numbers) has the names of the
+//! numbers, and [`words`](crate::words) the words of each.
+//!
+//! Each call that is lent a table first tests all of it, its book with it, which takes about a millisecond where it is
+//! full: so enter lists of readings, not single ones.
 //!
 //! ```
 //! use vimrothi::{calls, numbers};
 //!
-//! let (mut keys, mut sums, mut index) = ([0; 8], [0; 16], [0; 16]);
-//! let made = calls::fresh(1, 2, 8, &mut keys, &mut sums, &mut index);
+//! let (mut keys, mut sums, mut index, mut book) = ([0; 8], [0; 16], [0; 16], [0; 12]);
+//! let made = calls::fresh(1, 2, 8, 3, &mut keys, &mut sums, &mut index, &mut book);
 //! assert_eq!(made.number, numbers::DONE);
 //!
-//! let entered = calls::enter(made.head, &mut keys, &mut sums, &mut index, &[3, -3, 10, 2, -2, 4]);
+//! // Reading 101 is 10 at (3, -3), and 102 is 4 at (2, -2).
+//! let list = [101, 3, -3, 10, 102, 2, -2, 4];
+//! let entered = calls::enter(made.head, &mut keys, &mut sums, &mut index, &mut book, &list);
 //! assert_eq!((entered.taken, entered.number), (2, numbers::DONE));
 //! assert_eq!(entered.head.points, 2);
 //! // Points are stored in the order in which they were met: here (2, -2), which leaves 0, before (1, -1).
 //! assert_eq!(keys[..2], [2, 1]);
 //! assert_eq!(sums[..4], [2, 20, 6, 36]);
+//! assert_eq!(book[..8], list);
+//!
+//! // Without 101 the point (2, -2) has no mass: it leaves, and the last point takes its number.
+//! let left = calls::withdraw(entered.head, &mut keys, &mut sums, &mut index, &mut book, 101);
+//! assert_eq!((left.number, left.head.readings, left.head.points), (numbers::DONE, 1, 1));
+//! assert_eq!((keys[..2].to_vec(), sums[..4].to_vec()), (vec![1, 0], vec![4, 16, 0, 0]));
+//! assert_eq!(book[..8], [102, 2, -2, 4, 0, 0, 0, 0]);
 //! ```
 
 // Why every `unsafe` below is sound. The library was compiled from functions whose parameters are references and
 // slices. Each pointer passed here comes from a Rust reference or slice that lives through the call, is not null and
 // is aligned, and each length is that of its own slice. What the library may write comes from a `&mut`, or from a
-// local variable of the call (the head's five fields, `taken`, `offset`), so nothing else reaches it meanwhile. The
+// local variable of the call (the head's six fields, `taken`, `offset`), so nothing else reaches it meanwhile. The
 // library proves that it stays inside what is lent, whatever the numbers are, and it keeps no pointer.
 
 use crate::declared;
@@ -35,8 +49,9 @@ use crate::declared;
 /// ```
 /// use vimrothi::Head;
 ///
-/// let head = Head::new(1, 2, 8).with_counts(2, 3);
-/// assert_eq!((head.d, head.fineness, head.capacity, head.readings, head.points), (1, 2, 8, 2, 3));
+/// let head = Head::new(1, 2, 8, 4).with_counts(2, 3);
+/// assert_eq!((head.d, head.fineness, head.capacity, head.room), (1, 2, 8, 4));
+/// assert_eq!((head.readings, head.points), (2, 3));
 /// ```
 #[derive(Clone, Copy, Debug, Default, PartialEq, Eq)]
 #[non_exhaustive]
@@ -47,19 +62,22 @@ pub struct Head {
     pub fineness: u32,
     /// C, 1 to 8,192.
     pub capacity: usize,
-    /// n, at most 4,096.
+    /// B, 1 to 4,096: the room of the book.
+    pub room: usize,
+    /// n, at most B: the book has so many readings.
     pub readings: usize,
     /// m, at most C.
     pub points: usize,
 }
 
 impl Head {
-    /// The head of a table without readings: dimension d, fineness S and capacity C.
-    pub fn new(d: usize, fineness: u32, capacity: usize) -> Head {
+    /// The head of a table without readings: dimension d, fineness S, capacity C and the book's room B.
+    pub fn new(d: usize, fineness: u32, capacity: usize, room: usize) -> Head {
         Head {
             d,
             fineness,
             capacity,
+            room,
             readings: 0,
             points: 0,
         }
@@ -106,25 +124,29 @@ pub struct Loaded {
     pub head: Head,
 }
 
-/// Makes a fresh table of dimension d, fineness S and capacity C in the three lent slices.
+/// Makes a fresh table of dimension d, fineness S, capacity C and room B in the four lent slices.
 ///
-/// Refuses with 1 and 2. Done, the head has no readings and no points, and the three slices are filled with 0. Refused,
-/// the slices are unchanged, and the head has d, S and C as given, with 0 readings and 0 points.
+/// Refuses with 1 and 2. Done, the head has no readings and no points, and the four slices are filled with 0. Refused,
+/// the slices are unchanged, and the head has d, S, C and B as given, with 0 readings and 0 points.
+#[allow(clippy::too_many_arguments)]
 pub fn fresh(
     d: usize,
     fineness: u32,
     capacity: usize,
+    room: usize,
     keys: &mut [i32],
     sums: &mut [i64],
     index: &mut [u16],
+    book: &mut [i32],
 ) -> Answer {
-    let mut head = Head::new(d, fineness, capacity);
+    let mut head = Head::new(d, fineness, capacity, room);
     // SAFETY: pointers and lengths of the slices lent to this function, and of its own `head`.
     let number = unsafe {
         declared::vimrothi_fresh(
             &mut head.d,
             &mut head.fineness,
             &mut head.capacity,
+            &mut head.room,
             &mut head.readings,
             &mut head.points,
             keys.as_mut_ptr(),
@@ -133,17 +155,29 @@ pub fn fresh(
             sums.len(),
             index.as_mut_ptr(),
             index.len(),
+            book.as_mut_ptr(),
+            book.len(),
         )
     };
     Answer { number, head }
 }
 
-/// Enters a list of readings into a table. Each is d + 1 coordinates and then the value.
+/// Enters a list of readings into a table, in the book's form. Each is its number, d + 1 coordinates and then the
+/// value.
 ///
 /// Refuses with 1, 2 and 3 as a whole, an empty list too: nothing is taken, and head and memory are as they were. Then
-/// each reading is refused with 4, 5, 6, 7 or 8, or taken. It stops at the first refused reading. The table holds those
-/// taken and nothing of the refused one; what stood in keys and sums past the last point stays there.
-pub fn enter(mut head: Head, keys: &mut [i32], sums: &mut [i64], index: &mut [u16], list: &[i32]) -> Entered {
+/// each reading is refused with 4, 5, 6, 20, 7 or 8, or taken. 20 is told of a number that the table holds by then,
+/// also from earlier in the same list. It stops at the first refused reading. The table holds those taken, the book has
+/// them behind the others, and nothing of the refused one is there; what stood in keys and sums past the last point,
+/// and in the book past the last reading, stays.
+pub fn enter(
+    mut head: Head,
+    keys: &mut [i32],
+    sums: &mut [i64],
+    index: &mut [u16],
+    book: &mut [i32],
+    list: &[i32],
+) -> Entered {
     let mut taken = 0;
     // SAFETY: pointers and lengths of the slices lent to this function, and of its own `head` and `taken`.
     let number = unsafe {
@@ -151,6 +185,7 @@ pub fn enter(mut head: Head, keys: &mut [i32], sums: &mut [i64], index: &mut [u1
             &mut head.d,
             &mut head.fineness,
             &mut head.capacity,
+            &mut head.room,
             &mut head.readings,
             &mut head.points,
             keys.as_mut_ptr(),
@@ -159,6 +194,8 @@ pub fn enter(mut head: Head, keys: &mut [i32], sums: &mut [i64], index: &mut [u1
             sums.len(),
             index.as_mut_ptr(),
             index.len(),
+            book.as_mut_ptr(),
+            book.len(),
             list.as_ptr(),
             list.len(),
             &mut taken,
@@ -167,21 +204,25 @@ pub fn enter(mut head: Head, keys: &mut [i32], sums: &mut [i64], index: &mut [u1
     Entered { taken, number, head }
 }
 
-/// Adds a source table, which is only read, to a target table. Capacities may differ.
+/// Adds a source table, which is only read, to a target table. Capacities and rooms may differ.
 ///
-/// Refuses with 1, 2 and 3, for each the target before the source, then 9, 7 and 8: all or nothing. Done, each of the
-/// source's pairs is added to the target's, new points are appended in the source's order, and the readings are added
-/// up. Refused, the target's head and memory are as they were.
+/// Refuses with 1, 2 and 3, for each the target before the source, then 9, 20, 7 and 8: all or nothing. 20 is told
+/// where the target holds some number of the source's book, and 7 where the readings are more than the target's B.
+/// Done, each of the source's pairs is added to the target's, new points are appended in the source's order, and the
+/// source's readings stand behind the target's in its book, in their own order. Refused, the target's head and memory
+/// are as they were.
 #[allow(clippy::too_many_arguments)]
 pub fn merge(
     mut head: Head,
     keys: &mut [i32],
     sums: &mut [i64],
     index: &mut [u16],
+    book: &mut [i32],
     source: Head,
     source_keys: &[i32],
     source_sums: &[i64],
     source_index: &[u16],
+    source_book: &[i32],
 ) -> Answer {
     // SAFETY: pointers and lengths of the slices lent to this function, and of its own `head`.
     let number = unsafe {
@@ -189,6 +230,7 @@ pub fn merge(
             &mut head.d,
             &mut head.fineness,
             &mut head.capacity,
+            &mut head.room,
             &mut head.readings,
             &mut head.points,
             keys.as_mut_ptr(),
@@ -197,9 +239,12 @@ pub fn merge(
             sums.len(),
             index.as_mut_ptr(),
             index.len(),
+            book.as_mut_ptr(),
+            book.len(),
             source.d,
             source.fineness,
             source.capacity,
+            source.room,
             source.readings,
             source.points,
             source_keys.as_ptr(),
@@ -208,6 +253,45 @@ pub fn merge(
             source_sums.len(),
             source_index.as_ptr(),
             source_index.len(),
+            source_book.as_ptr(),
+            source_book.len(),
+        )
+    };
+    Answer { number, head }
+}
+
+/// Takes one reading back from a table: the one of this number.
+///
+/// Refuses with 1, 2, 3 and 19. Done, the reading's weights are subtracted. A point whose mass becomes 0 leaves the
+/// table, and the last point takes its number; where several leave, they go in ascending remainder. The vacated keys
+/// and sums become 0, and the index is that of entering the points afresh by number. The book closes up, and what was
+/// the place of its last reading becomes 0. Refused, head and memory are as they were.
+pub fn withdraw(
+    mut head: Head,
+    keys: &mut [i32],
+    sums: &mut [i64],
+    index: &mut [u16],
+    book: &mut [i32],
+    number: i32,
+) -> Answer {
+    // SAFETY: pointers and lengths of the slices lent to this function, and of its own `head`.
+    let number = unsafe {
+        declared::vimrothi_withdraw(
+            &mut head.d,
+            &mut head.fineness,
+            &mut head.capacity,
+            &mut head.room,
+            &mut head.readings,
+            &mut head.points,
+            keys.as_mut_ptr(),
+            keys.len(),
+            sums.as_mut_ptr(),
+            sums.len(),
+            index.as_mut_ptr(),
+            index.len(),
+            book.as_mut_ptr(),
+            book.len(),
+            number,
         )
     };
     Answer { number, head }
@@ -217,13 +301,14 @@ pub fn merge(
 ///
 /// Answers 0, or refuses with 1, 2 and 3. Done, the list has the point numbers, from 0, ordered by coordinate 0, then 1
 /// and so on, ascending, and 0 in the rest. Refused, the list is unchanged.
-pub fn list(head: Head, keys: &[i32], sums: &[i64], index: &[u16], list: &mut [u16]) -> u8 {
+pub fn list(head: Head, keys: &[i32], sums: &[i64], index: &[u16], book: &[i32], list: &mut [u16]) -> u8 {
     // SAFETY: pointers and lengths of the slices lent to this function.
     unsafe {
         declared::vimrothi_list(
             head.d,
             head.fineness,
             head.capacity,
+            head.room,
             head.readings,
             head.points,
             keys.as_ptr(),
@@ -232,6 +317,8 @@ pub fn list(head: Head, keys: &[i32], sums: &[i64], index: &[u16], list: &mut [u
             sums.len(),
             index.as_ptr(),
             index.len(),
+            book.as_ptr(),
+            book.len(),
             list.as_mut_ptr(),
             list.len(),
         )
@@ -250,6 +337,7 @@ pub fn filter(
     keys: &[i32],
     sums: &[i64],
     index: &[u16],
+    book: &[i32],
     first: &mut [i64],
     second: &mut [i64],
     queries: &[i32],
@@ -262,6 +350,7 @@ pub fn filter(
             head.d,
             head.fineness,
             head.capacity,
+            head.room,
             head.readings,
             head.points,
             keys.as_ptr(),
@@ -270,6 +359,8 @@ pub fn filter(
             sums.len(),
             index.as_ptr(),
             index.len(),
+            book.as_ptr(),
+            book.len(),
             first.as_mut_ptr(),
             first.len(),
             second.as_mut_ptr(),
@@ -284,14 +375,25 @@ pub fn filter(
     }
 }
 
-/// Loads a log into lent slices of the lengths that its settings give: a fresh table with the log's readings entered in
-/// order. Queries are passed over.
+/// Loads a log into lent slices of the lengths that its settings and this room B give: a fresh table with the log's
+/// readings entered in order. Queries are passed over.
 ///
-/// Each item is refused with 12, 13, 14 or 15, then the settings with 1 and 2, a reading with 4 to 8. It stops at the
-/// first refusal and tells the offset of that item's kind byte. The table then holds exactly the readings before that
-/// place. Where no settings were accepted or the slices were refused, they are unchanged and the head is all 0. A log
-/// taken whole answers 0 and its length.
-pub fn load(log: &[u8], keys: &mut [i32], sums: &mut [i64], index: &mut [u16]) -> Loaded {
+/// A numbered reading (kinds 71 to 75, hexadecimal) keeps its number. An unnumbered one (11 to 15) gets the lowest from
+/// 0 up that the table does not hold when it is met; so two logs of such readings have the same numbers, and a merge of
+/// their tables is refused with 20.
+///
+/// Each item is refused with 12, 13, 14 or 15, then the settings with 1 and 2, a reading with 4, 5, 6, 20, 7 or 8. A
+/// room out of range is 1 at offset 0. It stops at the first refusal and tells the offset of that item's kind byte. The
+/// table then holds exactly the readings before that place. Where no settings were accepted or the slices were refused,
+/// they are unchanged and the head is all 0. A log taken whole answers 0 and its length.
+pub fn load(
+    log: &[u8],
+    room: usize,
+    keys: &mut [i32],
+    sums: &mut [i64],
+    index: &mut [u16],
+    book: &mut [i32],
+) -> Loaded {
     let mut head = Head::default();
     let mut offset = 0;
     // SAFETY: pointers and lengths of the slices lent to this function, and of its own `head` and `offset`.
@@ -299,9 +401,11 @@ pub fn load(log: &[u8], keys: &mut [i32], sums: &mut [i64], index: &mut [u16]) -
         declared::vimrothi_load(
             log.as_ptr(),
             log.len(),
+            room,
             &mut head.d,
             &mut head.fineness,
             &mut head.capacity,
+            &mut head.room,
             &mut head.readings,
             &mut head.points,
             keys.as_mut_ptr(),
@@ -310,6 +414,8 @@ pub fn load(log: &[u8], keys: &mut [i32], sums: &mut [i64], index: &mut [u16]) -
             sums.len(),
             index.as_mut_ptr(),
             index.len(),
+            book.as_mut_ptr(),
+            book.len(),
             &mut offset,
         )
     };

@@ -1,13 +1,13 @@
-//! The names of document 01's refusal numbers, those of `c/vimrothi.h` without its prefix. A call answers with one of
-//! them, or with [`DONE`].
+//! The names of the refusal numbers of documents 01 and 02, those of `c/vimrothi.h` without its prefix. A call answers
+//! with one of them, or with [`DONE`].
 //!
 //! ```
 //! use vimrothi::{numbers, Table};
 //!
-//! let stopped = Table::load(b"\x01\x01\x02\x08\x00\x11\x03\x00").unwrap_err();
+//! let stopped = Table::load(b"\x01\x01\x02\x08\x00\x11\x03\x00", 100).unwrap_err();
 //! let advice = match stopped.number() {
 //!     numbers::BODY_CUT => "the battery went flat: what is before the offset can be kept",
-//!     numbers::TOO_MANY_READINGS => "the table is full: the rest goes into another, and the two cannot be merged",
+//!     numbers::TOO_MANY_READINGS => "load it again with a greater B",
 //!     numbers::TOO_MANY_POINTS => "load it again with a greater C",
 //!     _ => "look at the byte that is told",
 //! };
@@ -17,7 +17,7 @@
 /// The call was done: no refusal.
 pub const DONE: u8 = 0;
 
-/// d, S or C out of range.
+/// d, S, C or B out of range.
 pub const SETTINGS_OUT_OF_RANGE: u8 = 1;
 
 /// A lent slice has another length than the settings give, or a list isn't whole items.
@@ -35,7 +35,7 @@ pub const SUM_NOT_ZERO: u8 = 5;
 /// A value is beyond ±1,000,000.
 pub const VALUE_BEYOND: u8 = 6;
 
-/// More than 4,096 readings would be held.
+/// More than B readings would be held.
 pub const TOO_MANY_READINGS: u8 = 7;
 
 /// More than C points would be stored.
@@ -65,8 +65,14 @@ pub const BODY_CUT: u8 = 15;
 /// Program: log over 16,384 bytes, or C over 512.
 pub const PROGRAM_LIMIT: u8 = 16;
 
-/// Document 01's words for a refusal number. Every number has words: 0 is told as done, and a number that the document
-/// does not have as none of its numbers.
+/// Withdraw: number not held.
+pub const NUMBER_NOT_HELD: u8 = 19;
+
+/// Number held already.
+pub const NUMBER_HELD: u8 = 20;
+
+/// The documents' words for a refusal number. Every number has words: 0 is told as done, and a number that no call has
+/// as none of the numbers.
 ///
 /// It also explains the codes of [`calls`](crate::calls) and the numbers that `dyemap` prints.
 ///
@@ -75,18 +81,18 @@ pub const PROGRAM_LIMIT: u8 = 16;
 ///
 /// assert_eq!(words(numbers::BODY_CUT), "log: body cut short");
 /// assert_eq!(words(numbers::DONE), "done");
-/// assert_eq!(words(255), "not a number of document 01");
+/// assert_eq!(words(255), "not a refusal number");
 /// ```
 pub fn words(number: u8) -> &'static str {
     match number {
         DONE => "done",
-        SETTINGS_OUT_OF_RANGE => "d, S or C out of range",
+        SETTINGS_OUT_OF_RANGE => "d, S, C or B out of range",
         OTHER_LENGTH => "a lent slice has another length than the settings give, or a list isn't whole items",
         NOT_SOUND => "the table is not sound",
         COORDINATE_BEYOND => "a coordinate is beyond ±1,000,000",
         SUM_NOT_ZERO => "the coordinates don't sum to 0",
         VALUE_BEYOND => "a value is beyond ±1,000,000",
-        TOO_MANY_READINGS => "more than 4,096 readings would be held",
+        TOO_MANY_READINGS => "more than B readings would be held",
         TOO_MANY_POINTS => "more than C points would be stored",
         SETTINGS_DIFFER => "merge: d or S differ",
         NO_POINT_MET => "no stored point has weight above 0 for the query",
@@ -96,6 +102,8 @@ pub fn words(number: u8) -> &'static str {
         OTHER_DIMENSION => "log: item of another dimension than the settings",
         BODY_CUT => "log: body cut short",
         PROGRAM_LIMIT => "program: log over 16,384 bytes, or C over 512",
-        _ => "not a number of document 01",
+        NUMBER_NOT_HELD => "number not held",
+        NUMBER_HELD => "number held already",
+        _ => "not a refusal number",
     }
 }

@@ -1,4 +1,4 @@
-//! What a refused call tells: document 01's number, its words and the place. The numbers come from the proved
+//! What a refused call tells: the documents' number, its words and the place. The numbers come from the proved
 //! library; this file only gives them a Rust type. The safe functions over owned memory all answer with it.
 
 use std::error::Error;
@@ -25,8 +25,8 @@ pub enum Place {
 /// ```
 /// use vimrothi::{numbers, Place, Table};
 ///
-/// let mut table = Table::fresh(1, 2, 8)?;
-/// let refusal = table.enter(&[3, -3, 10, 5, -4, 10]).unwrap_err();
+/// let mut table = Table::fresh(1, 2, 8, 100)?;
+/// let refusal = table.enter(&[101, 3, -3, 10, 102, 5, -4, 10]).unwrap_err();
 /// assert_eq!(refusal.number(), numbers::SUM_NOT_ZERO);
 /// assert_eq!(refusal.place(), Place::Reading(1));
 /// assert_eq!(refusal.to_string(), "refused with 5 at reading 1: the coordinates don't sum to 0");
@@ -51,7 +51,7 @@ impl Refusal {
         }
     }
 
-    /// Document 01's number, 1 to 15; [`numbers`](crate::numbers) has their names. (16 is the program's, and
+    /// The documents' number, 1 to 15, 19 or 20; [`numbers`](crate::numbers) has their names. (16 is the program's, and
     /// [`report()`](crate::report()) prints it.)
     pub fn number(self) -> u8 {
         self.number
@@ -62,7 +62,7 @@ impl Refusal {
         self.place
     }
 
-    /// Document 01's words for the number.
+    /// The documents' words for the number.
     pub fn words(self) -> &'static str {
         words(self.number)
     }

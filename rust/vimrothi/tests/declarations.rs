@@ -1,7 +1,7 @@
 //! What is declared for other languages is what the library has. The functions of `crates/export`, the prototypes of
 //! `c/vimrothi.h` and the declarations of this crate are read from their files and compared: names, the order of the
 //! parameters, their types, and the result. So are the numbers and limits that the header and this crate name, and the
-//! words of the numbers with document 01.
+//! words of the numbers with documents 01 and 02.
 
 use std::fs;
 use std::path::Path;
@@ -153,6 +153,10 @@ fn a_header_with_a_fault_is_told_from_a_good_one() {
         ("int64_t *first, size_t first_len", "int64_t *first, uint32_t first_len"),
         ("size_t *readings, size_t *points", "size_t *points, size_t *readings"),
         ("size_t *taken", "size_t taken"),
+        ("size_t *capacity, size_t *room", "size_t *room, size_t *capacity"),
+        ("int32_t *book, size_t book_len", "const int32_t *book, size_t book_len"),
+        ("int32_t number", "uint32_t number"),
+        ("size_t book_room", "uint32_t book_room"),
         ("size_t vimrothi_report", "uint8_t vimrothi_report"),
         ("uint8_t vimrothi_list(", "uint8_t vimrothi_listing("),
         (
@@ -216,7 +220,8 @@ fn the_limits_are_the_librarys() {
         ("MOST_D", limit("MOST_D")),
         ("MOST_FINENESS", limit("MOST_FINENESS")),
         ("MOST_CAPACITY", limit("MOST_CAPACITY")),
-        ("MOST_READINGS", limit("MOST_READINGS")),
+        // The book's room: no table holds more readings.
+        ("MOST_ROOM", limit("MOST_READINGS")),
         ("COORDINATE_LIMIT", limit("FARTHEST")),
         ("VALUE_LIMIT", limit("MOST_VALUE")),
         ("REPORT_ROOM", limit("ROOM")),
@@ -231,7 +236,7 @@ fn the_limits_are_the_librarys() {
 #[test]
 fn a_head_is_passed_in_the_order_of_the_parameters() {
     let exported = exported();
-    let fields: Vec<&str> = exported[0].parameters[..5]
+    let fields: Vec<&str> = exported[0].parameters[..6]
         .iter()
         .map(|(name, _)| name.as_str())
         .collect();
@@ -257,6 +262,17 @@ fn the_words_are_the_documents() {
     let rows: Vec<(u8, String)> = document.lines().filter_map(row).collect();
     assert_eq!(rows.len(), 16, "document 01 has 16 numbers");
     for (number, told) in rows {
+        // "a fourth lent slice of room B, 1 to 4,096 (1 otherwise; 7 now comes above B"
+        let told = match number {
+            1 => told.replace("S or C", "S, C or B"),
+            7 => told.replace("4,096", "B"),
+            _ => told,
+        };
         assert_eq!(words(number), told);
+    }
+    let requests = text_of("docs/02-change-requests.md");
+    for number in [19, 20] {
+        let told = format!("{number} {} (", words(number));
+        assert!(requests.contains(&told), "document 02 has '{told}'");
     }
 }

@@ -3,27 +3,27 @@
 
 use vimrothi::Table;
 
-/// Five readings of dimension 2, around one place so that they share points.
-const READINGS: [[i32; 4]; 5] = [
-    [3, -1, -2, 120],
-    [4, -2, -2, 80],
-    [1, 1, -2, -35],
-    [2, 2, -4, 7],
-    [5, -3, -2, 1_000_000],
+/// Five readings of dimension 2, around one place so that they share points. The numbers are in no order.
+const READINGS: [[i32; 5]; 5] = [
+    [7, 3, -1, -2, 120],
+    [-1, 4, -2, -2, 80],
+    [i32::MAX, 1, 1, -2, -35],
+    [i32::MIN, 2, 2, -4, 7],
+    [0, 5, -3, -2, 1_000_000],
 ];
 
 const QUERIES: [i32; 9] = [3, -1, -2, 2, 0, -2, 4, -3, -1];
 
 /// A table of these readings.
-fn table(capacity: usize, readings: &[[i32; 4]]) -> Table {
-    let mut table = Table::fresh(2, 2, capacity).unwrap();
+fn table(capacity: usize, readings: &[[i32; 5]]) -> Table {
+    let mut table = Table::fresh(2, 2, capacity, 5).unwrap();
     table.enter(&readings.concat()).unwrap();
     table
 }
 
 /// Tests that two tables have the same points and answers.
 fn same(one: &Table, other: &Table) {
-    assert_eq!(one.readings(), other.readings());
+    assert_eq!(one.readings_len(), other.readings_len());
     assert_eq!(one.points(), other.points());
     assert_eq!(one.filter(&QUERIES), other.filter(&QUERIES));
 }
@@ -31,9 +31,9 @@ fn same(one: &Table, other: &Table) {
 #[test]
 fn readings_may_come_in_any_order_one_by_one_or_together() {
     let together = table(64, &READINGS);
-    let mut backwards = Table::fresh(2, 2, 100).unwrap();
+    let mut backwards = Table::fresh(2, 2, 100, 4096).unwrap();
     for reading in READINGS.iter().rev() {
-        backwards.enter_one(&reading[..3], reading[3]).unwrap();
+        backwards.enter_one(reading[0], &reading[1..4], reading[4]).unwrap();
     }
     same(&together, &backwards);
     assert_ne!(
@@ -55,6 +55,9 @@ fn tables_may_be_merged_in_any_order() {
         merged.merge(&parts[second]).unwrap();
         merged.merge(&parts[third]).unwrap();
         same(&merged, &table(64, &READINGS));
+        // The book is in order of entry, merged ones behind.
+        let books = [first, second, third].map(|part| parts[part].readings());
+        assert_eq!(merged.readings(), books.concat());
     }
 }
 
@@ -62,17 +65,17 @@ fn tables_may_be_merged_in_any_order() {
 fn a_clone_is_a_table_of_its_own() {
     let kept = table(64, &READINGS[..4]);
     let mut grown = kept.clone();
-    grown.enter_one(&[5, -3, -2], 1_000_000).unwrap();
-    assert_eq!((kept.readings(), grown.readings()), (4, 5));
+    grown.enter_one(0, &[5, -3, -2], 1_000_000).unwrap();
+    assert_eq!((kept.readings_len(), grown.readings_len()), (4, 5));
     same(&kept, &table(64, &READINGS[..4]));
 }
 
 #[test]
 fn stored_parts_make_the_same_table_and_can_go_on() {
-    let (head, keys, sums, index) = table(64, &READINGS[..4]).into_parts();
-    let mut again = Table::from_parts(head, keys, sums, index).unwrap();
+    let (head, keys, sums, index, book) = table(64, &READINGS[..4]).into_parts();
+    let mut again = Table::from_parts(head, keys, sums, index, book).unwrap();
     assert_eq!(again.head(), head);
-    again.enter_one(&READINGS[4][..3], READINGS[4][3]).unwrap();
+    again.enter(&READINGS[4]).unwrap();
     same(&again, &table(64, &READINGS));
 }
 
@@ -89,12 +92,14 @@ fn points_are_ascending_and_their_masses_sum_to_the_weights() {
 
 #[test]
 fn the_smallest_and_the_largest_settings_work() {
-    for (d, fineness, capacity) in [(1, 1, 1), (5, 64, 8192)] {
-        let mut table = Table::fresh(d, fineness, capacity).unwrap();
+    for (d, fineness, capacity, room) in [(1, 1, 1, 1), (5, 64, 8192, 4096)] {
+        let mut table = Table::fresh(d, fineness, capacity, room).unwrap();
         let origin = vec![0; d + 1];
-        table.enter_one(&origin, -42).unwrap();
+        table.enter_one(7, &origin, -42).unwrap();
         assert_eq!(table.answer_at(&origin), Ok(-42));
         assert_eq!(table.points_len(), 1);
+        table.withdraw(7).unwrap();
+        assert_eq!((table.readings_len(), table.points_len()), (0, 0));
     }
 }
 
@@ -103,6 +108,6 @@ fn a_table_is_shown_by_its_head() {
     let shown = format!("{:?}", table(64, &READINGS[..1]));
     assert_eq!(
         shown,
-        "Table { head: Head { d: 2, fineness: 2, capacity: 64, readings: 1, points: 3 }, .. }"
+        "Table { head: Head { d: 2, fineness: 2, capacity: 64, room: 5, readings: 1, points: 3 }, .. }"
     );
 }

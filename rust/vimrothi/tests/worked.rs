@@ -1,7 +1,7 @@
 //! Document 01's worked log and its small numbers, through the safe crate. What is expected is copied from the
 //! document, or counted from its item lengths.
 
-use vimrothi::{report, Head, Place, Point, Table};
+use vimrothi::{report, Head, Place, Point, Reading, Table};
 
 /// The 49 bytes of the document: settings at 0, readings at 5 and 18, queries at 31 and 40.
 const WORKED: &[u8] = b"\x01\x01\x02\x08\x00\
@@ -25,8 +25,8 @@ fn point(coordinates: &[i32], mass: i64, value_sum: i64) -> Point {
 
 /// The points that one reading of value 1 leaves in a fresh table: its lattice points and their weights.
 fn weights(fineness: u32, position: &[i32]) -> Vec<Point> {
-    let mut table = Table::fresh(position.len() - 1, fineness, 8).unwrap();
-    table.enter_one(position, 1).unwrap();
+    let mut table = Table::fresh(position.len() - 1, fineness, 8, 1).unwrap();
+    table.enter_one(0, position, 1).unwrap();
     table.points()
 }
 
@@ -38,16 +38,19 @@ fn the_report_is_the_documents() {
 
 #[test]
 fn the_loaded_table_is_the_documents() {
-    let table = Table::load(WORKED).unwrap();
-    assert_eq!(table.head(), Head::new(1, 2, 8).with_counts(2, 2));
+    let table = Table::load(WORKED, 3).unwrap();
+    assert_eq!(table.head(), Head::new(1, 2, 8, 3).with_counts(2, 2));
     assert_eq!((table.d(), table.fineness(), table.capacity()), (1, 2, 8));
-    assert_eq!((table.readings(), table.points_len()), (2, 2));
+    assert_eq!((table.room(), table.readings_len(), table.points_len()), (3, 2, 2));
+    // The log's readings have no numbers: they get 0 and 1.
+    let readings = [Reading::new(0, [3, -3], 10), Reading::new(1, [2, -2], 4)];
+    assert_eq!(table.readings(), readings);
     assert_eq!(table.points(), [point(&[1, -1], 6, 36), point(&[2, -2], 2, 20)]);
 }
 
 #[test]
 fn the_answers_are_the_documents() {
-    let table = Table::load(WORKED).unwrap();
+    let table = Table::load(WORKED, 2).unwrap();
     let answers = table.filter(&[4, -4, 100, -100, 3, -3]).unwrap();
     let refusal = answers[1].unwrap_err();
     assert_eq!((answers[0], answers[2]), (Ok(7), Ok(7)));
@@ -58,8 +61,9 @@ fn the_answers_are_the_documents() {
 
 #[test]
 fn the_memory_is_the_documents() {
-    let (_, keys, sums, index) = Table::load(WORKED).unwrap().into_parts();
+    let (_, keys, sums, index, book) = Table::load(WORKED, 3).unwrap().into_parts();
     assert_eq!((keys.len(), sums.len(), index.len()), (8, 16, 16));
+    assert_eq!(book, [0, 3, -3, 10, 1, 2, -2, 4, 0, 0, 0, 0]);
     // The first reading appends its points in ascending remainder: key 2 leaves 0 on division by 2, key 1 leaves 1.
     assert_eq!((&keys[..2], &sums[..4]), (&[2, 1][..], &[2, 20, 6, 36][..]));
     // The home of key 1 is 3 and of key 2 it is 6; index i + 1 names point i.
@@ -91,11 +95,8 @@ fn the_weights_are_the_documents() {
 #[test]
 fn a_log_cut_between_items_loads() {
     for (&cut, readings) in STARTS[1..].iter().zip([0, 1, 2, 2]) {
-        assert_eq!(
-            Table::load(&WORKED[..cut]).unwrap().readings(),
-            readings,
-            "cut at {cut}"
-        );
+        let table = Table::load(&WORKED[..cut], 2).unwrap();
+        assert_eq!(table.readings_len(), readings, "cut at {cut}");
     }
 }
 
@@ -103,20 +104,26 @@ fn a_log_cut_between_items_loads() {
 fn a_log_cut_inside_an_item_tells_where_and_keeps_what_was_before() {
     for cut in (1..WORKED.len()).filter(|cut| !STARTS.contains(cut)) {
         let start = *STARTS.iter().rfind(|&&start| start < cut).unwrap();
-        let stopped = Table::load(&WORKED[..cut]).unwrap_err();
+        let stopped = Table::load(&WORKED[..cut], 2).unwrap_err();
         assert_eq!((stopped.number(), stopped.offset()), (15, start), "cut at {cut}");
-        let kept = stopped.into_table().map(|table| table.points());
-        let before = Table::load(&WORKED[..start]).ok().map(|table| table.points());
+        let kept = stopped.into_table().map(Table::into_parts);
+        let before = Table::load(&WORKED[..start], 2).ok().map(Table::into_parts);
         assert_eq!(kept, before, "cut at {cut}");
     }
 }
 
 #[test]
 fn a_log_without_accepted_settings_leaves_no_table() {
-    let stopped = Table::load(b"").unwrap_err();
+    let stopped = Table::load(b"", 2).unwrap_err();
     assert_eq!((stopped.number(), stopped.offset()), (13, 0));
     assert!(stopped.table().is_none());
-    let stopped = Table::load(b"\x01\x06\x02\x08\x00").unwrap_err();
-    assert_eq!((stopped.number(), stopped.offset()), (1, 0));
-    assert!(stopped.into_table().is_none());
+    for (log, room) in [
+        (b"\x01\x06\x02\x08\x00", 2),
+        (b"\x01\x01\x02\x08\x00", 0),
+        (b"\x01\x01\x02\x08\x00", 4097),
+    ] {
+        let stopped = Table::load(log, room).unwrap_err();
+        assert_eq!((stopped.number(), stopped.offset()), (1, 0));
+        assert!(stopped.into_table().is_none());
+    }
 }

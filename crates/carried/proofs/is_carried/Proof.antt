@@ -18,7 +18,7 @@ abbrev of : tie.Start → Settings
 of s = settings (s .args .head)
 
 abbrev the : tie.Start → Booked
-the s = booked (s .args .head) (s .args .room) (s .args .keys .now) (s .args .sums .now) (s .args .index .now) (s .args .book .now)
+the s = booked (s .args .head) (s .args .keys .now) (s .args .sums .now) (s .args .index .now) (s .args .book .now)
 
 is-sound-requires : tie.Need-is-sound-requires
 is-sound-requires c κs = search needs

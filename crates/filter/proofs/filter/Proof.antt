@@ -1,23 +1,24 @@
 use mathlib.Core.Path.{_≡_, ap, _∙_}
-use Rattle.table.specs.Table.{Table}
-use Rattle.table.specs.Calls.{callRefusal}
-use Rattle.table.specs.Heads.{settings, table}
+use Rattle.table.specs.Heads.{settings}
+use Rattle.book.specs.Book.{Booked}
+use Rattle.book.specs.Calls.{callRefusal}
+use Rattle.book.specs.Heads.{booked}
 use Rattle.filter.specs.Filter.{Lent}
 use Rattle.filter.proofs.Calling.{lengthsFit, call-refused, call-open, call-answers, call-done}
 use borrow.Author.Needs.{needs}
 use Rattle.filter.proofs.filter.Statement.{statement}
 use Rattle.filter.proofs.filter.Tie as tie
 
--- the table, what is lent to be written, and the number of the whole call
-abbrev tableOf : tie.Start → Table
-tableOf s = table (s .args .head) (s .args .keys .now) (s .args .sums .now) (s .args .index .now)
+-- the table with its book, what is lent to be written, and the number of the whole call
+abbrev the : tie.Start → Booked
+the s = booked (s .args .head) (s .args .keys .now) (s .args .sums .now) (s .args .index .now) (s .args .book .now)
 
 abbrev lentOf : tie.Start → Lent
 lentOf s = record { first = s .args .first .now; second = s .args .second .now; values = s .args .values .now; codes = s .args .codes .now }
 
 number-is : (c : tie.After-refusal-of) → let s = c .before .before .before .before in
-    c .refusal-of .result ≡ callRefusal (settings (s .args .head)) (tableOf s) (lengthsFit (settings (s .args .head)) (s .args .queries .now) (lentOf s))
-number-is c = let s = c .before .before .before .before in c .refusal-of .ensures ∙ ap (callRefusal (settings (s .args .head)) (tableOf s)) (c .before .lent-fits .ensures)
+    c .refusal-of .result ≡ callRefusal (settings (s .args .head)) (the s) (lengthsFit (settings (s .args .head)) (s .args .queries .now) (lentOf s))
+number-is c = let s = c .before .before .before .before in c .refusal-of .ensures ∙ ap (callRefusal (settings (s .args .head)) (the s)) (c .before .lent-fits .ensures)
 
 lent-fits-requires : tie.Need-lent-fits-requires
 lent-fits-requires c κs = search needs
@@ -28,19 +29,19 @@ refusal-of-requires c κs = search needs
 returns : tie.Need-returns
 returns c =
     let s = c .before .before .before .before .before in
-    call-refused (settings (s .args .head)) (tableOf s) (s .args .queries .now) (lentOf s) _ (number-is (c .before)) (c .if1 .taken)
+    call-refused (settings (s .args .head)) (the s) (s .args .queries .now) (lentOf s) _ (number-is (c .before)) (c .if1 .taken)
 
 blur-requires : tie.Need-blur-requires
 blur-requires c κs =
     let s = c .before .before .before .before .before .before .before in
-    call-open (settings (s .args .head)) (tableOf s) (s .args .queries .now) (lentOf s) _ (number-is (c .before .before .before)) (c .before .before .if1 .left)
+    call-open (settings (s .args .head)) (the s) (s .args .queries .now) (lentOf s) _ (number-is (c .before .before .before)) (c .before .before .if1 .left)
 
 reply-all-requires : tie.Need-reply-all-requires
 reply-all-requires c κs =
     let b = c .before .before .before .before .before in
     let e = b .before .before .before in
     let s = e .before .before .before .before .before in
-    call-answers (settings (s .args .head)) (tableOf s) (s .args .queries .now) (lentOf s) _ (number-is (e .before)) (e .if1 .left) (b .blur .ensures)
+    call-answers (settings (s .args .head)) (the s) (s .args .queries .now) (lentOf s) _ (number-is (e .before)) (e .if1 .left) (b .blur .ensures)
 
 same-length : tie.Need-same-length
 same-length c = search needs
@@ -59,7 +60,7 @@ returns-2 c =
     let b = c .before .before .before .before .before .before .before .before .before in
     let e = b .before .before .before in
     let s = e .before .before .before .before .before in
-    call-done (settings (s .args .head)) (tableOf s) (s .args .queries .now) (lentOf s) _ (number-is (e .before)) (e .if1 .left) (b .blur .ensures)
+    call-done (settings (s .args .head)) (the s) (s .args .queries .now) (lentOf s) _ (number-is (e .before)) (e .if1 .left) (b .blur .ensures)
     (c .before .before .before .reply-all .ensures)
 
 pub filter-spec : {M : Type 1} → statement M

@@ -11,13 +11,13 @@ use Rattle.book.specs.Calls.{callRefusal}
 use Rattle.book.specs.Withdraw.{entryWith}
 use Rattle.book.specs.Heads.{booked}
 use Rattle.book.specs.Theorems.{FineBook}
-use Rattle.withdraw.proofs.TakenBack.{book-long}
+use Rattle.book.proofs.Fine.{book-long}
 use Rattle.withdraw.proofs.Answers.{fine, entry-low, refused, not-held, done}
 use Rattle.withdraw.proofs.withdraw.Statement.{statement}
 use Rattle.withdraw.proofs.withdraw.Tie as tie
 
 abbrev the : tie.Start → Booked
-the s = booked (s .args .head) (s .args .room) (s .args .keys .now) (s .args .sums .now) (s .args .index .now) (s .args .book .now)
+the s = booked (s .args .head) (s .args .keys .now) (s .args .sums .now) (s .args .index .now) (s .args .book .now)
 
 abbrev start : tie.After-refusal-of → tie.Start
 start c = c .before .before .before .before .before .before
@@ -57,7 +57,7 @@ same-length-4 c = search needs
 returns : tie.Need-returns
 returns c =
     let s = start (c .before) in
-    refused (s .args .head) (s .args .room) (s .args .keys .now) (s .args .sums .now) (s .args .index .now) (s .args .book .now) (s .args .number) _ (c .before .refusal-of .ensures) (λ z. c .if1 .taken z)
+    refused (s .args .head) (s .args .keys .now) (s .args .sums .now) (s .args .index .now) (s .args .book .now) (s .args .number) _ (c .before .refusal-of .ensures) (λ z. c .if1 .taken z)
 
 entry-with-requires : tie.Need-entry-with-requires
 entry-with-requires c κs =
@@ -82,7 +82,7 @@ returns-2 : tie.Need-returns-2
 returns-2 c =
     let e = passed (c .before) in
     let s = start (e .before) in
-    not-held (s .args .head) (s .args .room) (s .args .keys .now) (s .args .sums .now) (s .args .index .now) (s .args .book .now) (s .args .number) (none e) (place (c .before)) (c .if2 .taken)
+    not-held (s .args .head) (s .args .keys .now) (s .args .sums .now) (s .args .index .now) (s .args .book .now) (s .args .number) (none e) (place (c .before)) (c .if2 .taken)
 
 sub-take-back : tie.Need-sub-take-back
 sub-take-back c = search needs
@@ -114,7 +114,7 @@ returns-3 c =
     let k = t .before .before .before .before .before in
     let e = passed (k .before) in
     let s = start (e .before) in
-    done (s .args .head) (s .args .room) (s .args .keys .now) (s .args .sums .now) (s .args .index .now) (s .args .book .now) (s .args .number) (none e) (place (k .before)) (λ z. k .if2 .left z)
+    done (s .args .head) (s .args .keys .now) (s .args .sums .now) (s .args .index .now) (s .args .book .now) (s .args .number) (none e) (place (k .before)) (λ z. k .if2 .left z)
     (t .take-back .ensures) (c .with-counts .ensures)
 
 pub withdraw-spec : {M : Type 1} → statement M

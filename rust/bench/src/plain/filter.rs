@@ -4,6 +4,7 @@ use super::index::{find, key};
 use super::lattice::{judge, MOST_CAPACITY, MOST_D, NO_MASS_MET, NO_POINT_MET};
 use super::simplex::enclose;
 use super::soundness::refusal_of;
+use super::table::View;
 use vimrothi::calls::Head;
 
 /// Answers queries of d + 1 coordinates: 1, 2, 3; then a value and a code for each, 0, 4, 5, 10 or 11.
@@ -13,6 +14,7 @@ pub fn filter(
     keys: &[i32],
     sums: &[i64],
     index: &[u16],
+    book: &[i32],
     first: &mut [i64],
     second: &mut [i64],
     queries: &[i32],
@@ -26,7 +28,14 @@ pub fn filter(
         && queries.len().is_multiple_of(head.d + 1)
         && values.len() == queries.len() / (head.d + 1)
         && codes.len() == values.len();
-    let number = refusal_of(head, keys, sums, index, more);
+    let table = View {
+        head,
+        keys,
+        sums,
+        index,
+        book,
+    };
+    let number = refusal_of(table, more);
     if number != 0 {
         return number;
     }

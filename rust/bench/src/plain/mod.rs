@@ -1,6 +1,7 @@
-//! Document 01's calls in ordinary safe Rust: the algorithm of the proved crates, with their refusals in their
-//! order, over the same lent slices. The calls have the signatures of `vimrothi::calls`, and its types.
+//! The calls of documents 01 and 02 in ordinary safe Rust: the algorithm of the proved crates, with their refusals in
+//! their order, over the same lent slices. The calls have the signatures of `vimrothi::calls`, and its types.
 
+mod book;
 mod enter;
 mod filter;
 mod index;
@@ -8,11 +9,13 @@ mod lattice;
 mod list;
 mod log;
 mod merge;
+mod numbers;
 mod report;
 mod simplex;
 mod soundness;
 mod table;
 mod text;
+mod withdraw;
 
 pub use enter::enter;
 pub use filter::filter;
@@ -21,3 +24,4 @@ pub use log::load;
 pub use merge::merge;
 pub use report::report;
 pub use table::fresh;
+pub use withdraw::withdraw;

@@ -3,7 +3,7 @@
 use super::filter::{blur, reply};
 use super::index::key;
 use super::lattice::{MOST_D, PROGRAM_LIMIT, SETTINGS_MISPLACED, SETTINGS_OUT_OF_RANGE};
-use super::list::list;
+use super::list::fill;
 use super::log::{item_at, load, numbers_of, Item, AFTER_SETTINGS};
 use super::table::{in_range, Table};
 use super::text::Text;
@@ -11,6 +11,7 @@ use vimrothi::calls::REPORT_ROOM;
 
 const MOST_BYTES: usize = 16_384;
 const MOST_POINTS: usize = 512;
+const BOOK_ROOM: usize = 2048;
 
 /// Writes what `dyemap` prints for a log at the start of the buffer, and answers how many bytes it is: 0, and
 /// nothing written, where the buffer is shorter than [`REPORT_ROOM`].
@@ -49,10 +50,12 @@ fn put_log(text: &mut Text, log: &[u8], d: usize, capacity: usize) {
     let mut keys = [0; MOST_D * MOST_POINTS];
     let mut sums = [0; 2 * MOST_POINTS];
     let mut index = [0; 2 * MOST_POINTS];
+    let mut book = [0; (MOST_D + 3) * BOOK_ROOM];
     let keys = &mut keys[..d * capacity];
     let sums = &mut sums[..2 * capacity];
     let index = &mut index[..2 * capacity];
-    let loaded = load(log, keys, sums, index);
+    let book = &mut book[..(d + 3) * BOOK_ROOM];
+    let loaded = load(log, BOOK_ROOM, keys, sums, index, book);
     if loaded.number != 0 {
         return put_refused(text, loaded.number, loaded.offset);
     }
@@ -71,6 +74,7 @@ fn put_log(text: &mut Text, log: &[u8], d: usize, capacity: usize) {
         keys,
         sums,
         index,
+        book,
     };
     put_points(text, &table);
     put_answers(text, &table, log);
@@ -80,7 +84,7 @@ fn put_log(text: &mut Text, log: &[u8], d: usize, capacity: usize) {
 fn put_points(text: &mut Text, table: &Table) {
     let head = table.head;
     let mut order = [0; MOST_POINTS];
-    list(head, table.keys, table.sums, table.index, &mut order[..head.capacity]);
+    fill(table.keys, head.d, head.points, &mut order[..head.capacity]);
     for &point in &order[..head.points] {
         let point = usize::from(point);
         let mut numbers = [0; MOST_D + 3];

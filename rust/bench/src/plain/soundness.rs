@@ -1,32 +1,35 @@
-//! Whether a table is sound, on lent memory that may hold anything, and refusals 1, 2 and 3 of a call.
+//! Whether a table is sound with its book, on lent memory that may hold anything, and refusals 1, 2 and 3 of a call.
 
+use super::book::is_carried;
 use super::index::{find, key};
-use super::lattice::{FARTHEST_POINT, MOST_READINGS, MOST_VALUE, NOT_SOUND, OTHER_LENGTH, SETTINGS_OUT_OF_RANGE};
-use super::table::{in_range, lengths_fit};
+use super::lattice::{FARTHEST_POINT, MOST_ROOM, MOST_VALUE, NOT_SOUND, OTHER_LENGTH, SETTINGS_OUT_OF_RANGE};
+use super::table::View;
 use vimrothi::calls::Head;
 
 /// The first of refusals 1, 2 and 3 that is met, else 0. `more` says whether whatever else is lent has its length.
-pub fn refusal_of(head: Head, keys: &[i32], sums: &[i64], index: &[u16], more: bool) -> u8 {
-    if !in_range(head.d, head.fineness, head.capacity) {
+pub fn refusal_of(table: View, more: bool) -> u8 {
+    if !table.in_range() {
         return SETTINGS_OUT_OF_RANGE;
     }
-    if !lengths_fit(head.d, head.capacity, keys, sums, index) || !more {
+    if !table.lengths_fit() || !more {
         return OTHER_LENGTH;
     }
-    if !is_sound(head, keys, sums, index) {
+    if !is_sound(table) {
         return NOT_SOUND;
     }
     0
 }
 
-/// One pass over the index, one search for each key and one pass over the points. The index comes first: only then
-/// does each entry name a key, and only then can a search end.
-pub fn is_sound(head: Head, keys: &[i32], sums: &[i64], index: &[u16]) -> bool {
+/// One pass over the index, one search for each key and one pass over the points; then the book. The index comes first:
+/// only then does each entry name a key, and only then can a search end.
+pub fn is_sound(table: View) -> bool {
+    let View { head, keys, index, .. } = table;
     head.points <= head.capacity
-        && head.readings <= MOST_READINGS
+        && head.readings <= MOST_ROOM
         && index_is_sparse(index, head.points)
         && (0..head.points).all(|point| find(keys, index, key(keys, head.d, point)) == Some(point))
-        && rows_are_good(head, keys, sums)
+        && rows_are_good(head, keys, table.sums)
+        && is_carried(table)
 }
 
 fn index_is_sparse(index: &[u16], points: usize) -> bool {

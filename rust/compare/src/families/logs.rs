@@ -3,19 +3,20 @@
 
 use crate::case::Case;
 use crate::check::Check;
-use crate::logs::{mixed_log, worked_log, Log};
-use crate::positions::{anywhere, value, Scene, LIMIT};
+use crate::keys::some_fineness;
+use crate::logs::{mixed_log, worked_log, worked_log_with_a_number, Log};
+use crate::positions::{anywhere, Scene, LIMIT};
 use crate::random::Random;
-use crate::table::{some_fineness, Table, GREATEST_CAPACITY};
+use crate::table::{room_out_of_range, Settings, Table, GREATEST_CAPACITY, GREATEST_READINGS};
 
 /// Values that a byte of the mixed logs is changed to, besides the byte with one bit turned over.
-const OTHER_BYTES: [u8; 10] = [0x00, 0x01, 0x02, 0x11, 0x12, 0x22, 0x26, 0x7F, 0x80, 0xFF];
+const OTHER_BYTES: [u8; 12] = [0x00, 0x01, 0x02, 0x11, 0x12, 0x22, 0x26, 0x72, 0x76, 0x7F, 0x80, 0xFF];
 /// Turned over one by one.
 const BITS: usize = 8;
 /// The greatest length that the program reads.
 const PROGRAM_LENGTH: usize = 16_384;
 
-/// Runs a log through report and load. The lent slices mostly fit the settings.
+/// Runs a log through report and load. The lent slices mostly fit the settings, and the book mostly has room.
 pub fn run_log(random: &mut Random, check: &mut Check, log: &[u8]) {
     check.report(random, log);
     if random.once_in(50) {
@@ -25,20 +26,37 @@ pub fn run_log(random: &mut Random, check: &mut Check, log: &[u8]) {
     if random.once_in(12) {
         table.change_a_length(random);
     }
+    if random.once_in(30) {
+        table.head.room = room_out_of_range(random);
+    }
     check.load(log, &mut table);
 }
 
 /// Slices of the lengths that the first item's settings give, or of any small lengths where it has no good ones.
 fn slices_for(random: &mut Random, log: &[u8]) -> Table {
-    match log {
+    let (d, capacity) = match log {
         [0x01, d @ 1..=5, _, low, high, ..] => {
             let capacity = usize::from(u16::from_le_bytes([*low, *high]));
-            Table::lent(random, usize::from(*d), 1, capacity.min(GREATEST_CAPACITY))
+            (usize::from(*d), capacity.min(GREATEST_CAPACITY))
         }
-        _ => {
-            let (d, capacity) = (1 + random.below(5), random.below(20));
-            Table::lent(random, d, 1, capacity)
-        }
+        _ => (1 + random.below(5), random.below(20)),
+    };
+    let settings = Settings {
+        d,
+        fineness: 1,
+        capacity,
+        room: some_room(random),
+    };
+    Table::lent(random, settings)
+}
+
+/// A room that mostly suffices for a log of a few readings.
+fn some_room(random: &mut Random) -> usize {
+    match random.below(12) {
+        0 => 1 + random.below(4),
+        1 => 1 + random.below(24),
+        2 if random.once_in(60) => GREATEST_READINGS,
+        _ => 60 + random.below(10),
     }
 }
 
@@ -78,7 +96,8 @@ pub fn close_logs(case: &mut Case, check: &mut Check) {
     let d = 1 + random.below(5);
     let fineness = 1 + random.below(4) as u32;
     let reach = random.between(1, 3 * i64::from(fineness));
-    let mut scene = Scene::within(d, fineness, reach, random.pick(&[0, 0, 30]));
+    let fault_once_in = random.pick(&[0, 0, 30]);
+    let mut scene = Scene::within(random, d, fineness, reach, fault_once_in);
     let capacity = 100 + random.below(300);
     let log = scene_log(random, &mut scene, capacity, 60);
     run_log(random, check, &log.bytes);
@@ -89,22 +108,36 @@ pub fn limit_logs(case: &mut Case, check: &mut Check) {
     let random = &mut case.random;
     let (d, fineness) = (1 + random.below(5), some_fineness(random));
     let fault_once_in = random.pick(&[0, 4, 10, 20]);
-    let mut scene = Scene::within(d, fineness, LIMIT, fault_once_in);
+    let mut scene = Scene::within(random, d, fineness, LIMIT, fault_once_in);
     let log = scene_log(random, &mut scene, 300, 30);
     run_log(random, check, &log.bytes);
 }
 
-/// How many cases change each byte of the worked log to every other value.
-pub fn worked_byte_cases() -> u64 {
-    worked_log().bytes.len() as u64 * 255
+/// The worked log, and the one with a number in it.
+fn worked_logs() -> [Vec<u8>; 2] {
+    [worked_log().bytes, worked_log_with_a_number().bytes]
 }
 
-/// The worked log with one byte changed, to each of the 255 other values.
+/// How many cases change each byte of the worked logs to every other value.
+pub fn worked_byte_cases() -> u64 {
+    let lengths: usize = worked_logs().iter().map(Vec::len).sum();
+    lengths as u64 * 255
+}
+
+/// A worked log with one byte changed, to each of the 255 other values.
 pub fn worked_log_bytes(case: &mut Case, check: &mut Check) {
-    let mut log = worked_log().bytes;
     let (place, other) = ((case.number / 255) as usize, 1 + (case.number % 255) as u8);
+    let (mut log, place) = log_and_place(worked_logs(), place);
     log[place] = log[place].wrapping_add(other);
     run_log(&mut case.random, check, &log);
+}
+
+/// The log that this place is in, where they stand one behind the other, and the place in it.
+fn log_and_place([first, second]: [Vec<u8>; 2], place: usize) -> (Vec<u8>, usize) {
+    match place.checked_sub(first.len()) {
+        None => (first, place),
+        Some(place) => (second, place),
+    }
 }
 
 /// The two mixed logs, of dimensions 2 and 3, the same in every case.
@@ -121,12 +154,8 @@ pub fn mixed_byte_cases() -> u64 {
 /// A mixed log with one byte changed to one of several values.
 pub fn mixed_log_bytes(case: &mut Case, check: &mut Check) {
     let ways = OTHER_BYTES.len() + BITS;
-    let (mut place, way) = (case.number as usize / ways, case.number as usize % ways);
-    let [mut log, second] = mixed_logs();
-    if place >= log.len() {
-        place -= log.len();
-        log = second;
-    }
+    let (place, way) = (case.number as usize / ways, case.number as usize % ways);
+    let (mut log, place) = log_and_place(mixed_logs(), place);
     log[place] = match OTHER_BYTES.get(way) {
         Some(byte) => *byte,
         None => log[place] ^ (1 << (way - OTHER_BYTES.len())),
@@ -134,17 +163,20 @@ pub fn mixed_log_bytes(case: &mut Case, check: &mut Check) {
     run_log(&mut case.random, check, &log);
 }
 
+/// The logs that are cut.
+fn cut_logs() -> impl Iterator<Item = Vec<u8>> {
+    worked_logs().into_iter().chain(mixed_logs())
+}
+
 /// How many cases cut the worked and the mixed logs at every length, the whole ones included.
 pub fn cut_cases() -> u64 {
-    let mixed: usize = mixed_logs().iter().map(|log| log.len() + 1).sum();
-    (worked_log().bytes.len() + 1 + mixed) as u64
+    cut_logs().map(|log| log.len() as u64 + 1).sum()
 }
 
 /// A log cut at each length.
 pub fn log_cuts(case: &mut Case, check: &mut Check) {
     let mut length = case.number as usize;
-    let [second, third] = mixed_logs();
-    for log in [worked_log().bytes, second, third] {
+    for log in cut_logs() {
         if length <= log.len() {
             return run_log(&mut case.random, check, &log[..length]);
         }
@@ -162,7 +194,7 @@ pub fn item_orders(case: &mut Case, check: &mut Check) {
         log = Log::of_settings(d, fineness, 40);
     }
     let fault_once_in = random.pick(&[0, 10]);
-    let mut scene = Scene::within(d, fineness, 30, fault_once_in);
+    let mut scene = Scene::within(random, d, fineness, 30, fault_once_in);
     for _ in 0..random.below(7) {
         log.any_item(random, &mut scene);
     }
@@ -188,11 +220,12 @@ fn odd_item(random: &mut Random, log: &mut Log, scene: &mut Scene) {
         ),
         2 | 3 => {
             let d = 1 + random.below(5);
-            log.any_item(random, &mut Scene::within(d, scene.fineness, 30, 4));
+            let mut other = Scene::within(random, d, scene.fineness, 30, 4);
+            log.any_item(random, &mut other);
         }
         4 => log
             .bytes
-            .push(random.pick(&[0x00, 0x02, 0x10, 0x16, 0x20, 0x26, 0x81, 0xFF])),
+            .push(random.pick(&[0x00, 0x02, 0x10, 0x16, 0x20, 0x26, 0x70, 0x76, 0x81, 0xFF])),
         _ => log
             .bytes
             .extend((0..random.below(30)).map(|_| random.bits() as u8).collect::<Vec<_>>()),
@@ -207,10 +240,11 @@ pub fn program_limits(case: &mut Case, check: &mut Check) {
     let capacity = random.pick(&[512, 512, 512, 513, 8_192]);
     let mut log = Log::of_settings(d, fineness, capacity);
     let reach = i64::from(fineness) * random.between(1, 2);
-    let mut scene = Scene::within(d, fineness, reach, random.pick(&[0, 0, 800]));
+    let fault_once_in = random.pick(&[0, 0, 800]);
+    let mut scene = Scene::within(random, d, fineness, reach, fault_once_in);
     match random.below(4) {
         0 => log.fill_to(random, &mut scene, length),
-        1 => wide_report(random, &mut log, d),
+        1 => wide_report(random, &mut log, &mut scene),
         2 => {
             log.fill_to(random, &mut scene, length);
             let place = random.below(40);
@@ -226,11 +260,17 @@ pub fn program_limits(case: &mut Case, check: &mut Check) {
 }
 
 /// Fills the program's greatest capacity with points far out, and then the log with queries: the longest reports.
-fn wide_report(random: &mut Random, log: &mut Log, d: usize) {
+fn wide_report(random: &mut Random, log: &mut Log, scene: &mut Scene) {
+    let d = scene.d;
+    let numbered = random.once_in(2);
     for _ in 0..512 / (d + 1) {
-        let mut reading = anywhere(random, d);
-        reading.push(value(random));
-        log.reading(&reading);
+        let position = anywhere(random, d);
+        let reading = scene.reading_at(random, &position);
+        if numbered {
+            log.numbered(&reading);
+        } else {
+            log.unnumbered(&reading);
+        }
     }
     while log.bytes.len() + 1 + 4 * (d + 1) <= PROGRAM_LENGTH {
         log.query(&anywhere(random, d));

@@ -1,44 +1,37 @@
-//! Rounding: tables made by hand whose fractions are halves, or just above or below a half, of either sign.
+//! Rounding: readings whose fractions are halves, or just above or below a half, of either sign.
 
 use crate::case::Case;
-use crate::check::{Check, Sheets};
-use crate::positions::{beside_point, LIMIT};
+use crate::check::Check;
+use crate::keys::{at_point, some_fineness};
+use crate::positions::{beside_point, entry, Scene, LIMIT};
 use crate::random::Random;
-use crate::table::{shared_mass, some_fineness, Point, Table, GREATEST_READINGS};
+use crate::sheets::Sheets;
+use crate::sound::{of_readings, Spare};
 
-/// Points without neighbours: every pass doubles their pairs, so a query at the point answers its value sum divided by
-/// its mass, and that is worked out here a third time.
+/// Points without neighbours, each with some readings just there: every pass doubles their pairs, so a query at the
+/// point answers the sum of the values divided by their number, and that is worked out here a third time.
 pub fn lone_points(case: &mut Case, check: &mut Check) {
     let random = &mut case.random;
     let (d, fineness) = (1 + random.below(5), some_fineness(random));
-    let count = 1 + random.below(6);
-    let more = if random.once_in(4) {
-        GREATEST_READINGS - count
-    } else {
-        8
-    };
-    let readings = count + random.below(more);
-    let masses = shared_mass(random, ((d + 1) * fineness as usize * readings) as i64, count);
-    let points: Vec<Point> = (masses.into_iter().enumerate())
-        .map(|(number, mass)| Point {
-            key: lone_key(d, number),
-            mass,
-            value_sum: near_half(random, mass),
-        })
-        .collect();
-    let table = Table::of_points(random, (d, fineness, 8), readings, &points);
-    let queries = points.iter().flat_map(|point| at_point(&point.key, fineness)).collect();
-    let mut sheets = Sheets::lent(random, d, 8, queries);
+    let mut scene = Scene::within(random, d, fineness, 1, 0);
+    let mut readings = Vec::new();
+    let mut queries = Vec::new();
+    let mut expected = Vec::new();
+    for number in 0..1 + random.below(4) {
+        let position = at_point(fineness, &lone_key(d, number));
+        let count = if random.once_in(300) { 300 } else { 1 + random.below(6) };
+        let sum = near_half(random, count as i64);
+        for value in shared_sum(random, sum, count) {
+            readings.push(entry(scene.numbers.another(random), &position, value));
+        }
+        queries.extend(&position);
+        expected.push(rounded(sum, count as i64));
+    }
+    let table = of_readings(random, (d, fineness), readings, Spare::NONE);
+    let mut sheets = Sheets::lent(random, d, table.head.capacity, queries);
     check.filter(&table, &mut sheets);
-    let expected: Vec<i32> = points
-        .iter()
-        .map(|point| rounded(point.value_sum, point.mass))
-        .collect();
     check.expect(sheets.values == expected, || {
-        format!(
-            "answers {:?}, expected {expected:?}, of the points {points:?}",
-            sheets.values
-        )
+        format!("answers {:?}, expected {expected:?}, of {table}", sheets.values)
     });
 }
 
@@ -49,58 +42,63 @@ fn lone_key(d: usize, number: usize) -> Vec<i32> {
     key
 }
 
-/// A value sum whose fraction with the mass is at a half, one beside it, or at a whole number, of either sign.
-fn near_half(random: &mut Random, mass: i64) -> i64 {
-    let whole = random.pick(&[0, 0, 1, 2, 7, LIMIT - 1]) * mass;
+/// A sum of so many values whose mean is at a half, one beside it, or at a whole number, of either sign.
+fn near_half(random: &mut Random, count: i64) -> i64 {
+    let whole = random.pick(&[0, 0, 1, 2, 7, LIMIT - 1]) * count;
     let part = random.pick(&[
-        mass / 2,
-        mass / 2,
-        mass / 2 - 1,
-        mass / 2 + 1,
-        (mass + 1) / 2,
+        count / 2,
+        count / 2,
+        count / 2 - 1,
+        count / 2 + 1,
+        (count + 1) / 2,
         0,
-        mass - 1,
+        count - 1,
     ]);
-    let value_sum = (whole + part).clamp(0, LIMIT * mass);
-    random.pick(&[value_sum, -value_sum])
+    let sum = (whole + part).clamp(0, LIMIT * count);
+    random.pick(&[sum, -sum])
 }
 
-/// The query at a point.
-fn at_point(key: &[i32], fineness: u32) -> Vec<i32> {
-    let mut position: Vec<i32> = key.iter().map(|kept| kept * fineness as i32).collect();
-    position.push(-position.iter().sum::<i32>());
-    position
+/// So many values within the limits that have this sum. Each of them is near what is left divided by how many are.
+fn shared_sum(random: &mut Random, sum: i64, count: usize) -> Vec<i32> {
+    let mut rest = sum;
+    let mut values = Vec::with_capacity(count);
+    for left in (1..=count as i64).rev() {
+        // What is left for the others must be within their limits too.
+        let (least, greatest) = (rest - LIMIT * (left - 1), rest + LIMIT * (left - 1));
+        let near = rest / left + random.between(-5, 5);
+        let value = near.clamp(least.max(-LIMIT), greatest.min(LIMIT));
+        values.push(value as i32);
+        rest -= value;
+    }
+    values
 }
 
 /// The nearest whole number, a half away from zero.
-fn rounded(value_sum: i64, mass: i64) -> i32 {
-    let away = (2 * value_sum.abs() + mass) / (2 * mass);
-    (value_sum.signum() * away) as i32
+fn rounded(sum: i64, count: i64) -> i32 {
+    let away = (2 * sum.abs() + count) / (2 * count);
+    (sum.signum() * away) as i32
 }
 
-/// Points that are neighbours, with small masses and small value sums, so that halves are frequent.
+/// Few readings at or between points that are neighbours, with small values, so that halves are frequent.
 pub fn neighbours(case: &mut Case, check: &mut Check) {
     let random = &mut case.random;
     let d = 1 + random.below(3);
     let fineness = 1 + random.below(2) as u32;
-    let readings = 1 + random.below(3);
-    let total = (d + 1) * fineness as usize * readings;
-    let count = 1 + random.below(total.min(4));
-    let masses = shared_mass(random, total as i64, count);
-    let mut points: Vec<Point> = (masses.into_iter().enumerate())
-        .map(|(number, mass)| Point {
-            key: row_key(d, number),
-            mass,
-            value_sum: random.between(-3 * mass, 3 * mass),
-        })
-        .collect();
-    random.shuffle(&mut points);
-    let table = Table::of_points(random, (d, fineness, 6), readings, &points);
+    let mut scene = Scene::within(random, d, fineness, i64::from(fineness), 0);
+    let mut readings = Vec::new();
+    for _ in 0..1 + random.below(3) {
+        let place = random.below(4);
+        let position = beside_point(random, fineness, &row_key(d, place)).unwrap_or(vec![0; d + 1]);
+        let value = random.between(-3, 3) as i32;
+        readings.push(entry(scene.numbers.another(random), &position, value));
+    }
+    let spare = Spare::some(random);
+    let table = of_readings(random, (d, fineness), readings, spare);
     let queries = (0..8)
-        .flat_map(|query| beside_point(random, fineness, &points[query % count].key))
+        .flat_map(|query| beside_point(random, fineness, table.key(query % table.head.points)))
         .flatten();
     let queries = queries.collect();
-    check.filter(&table, &mut Sheets::lent(random, d, 6, queries));
+    check.filter(&table, &mut Sheets::lent(random, d, table.head.capacity, queries));
 }
 
 /// A row of neighbours: the kept coordinates of `number` times the step of pass 0.

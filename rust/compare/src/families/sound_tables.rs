@@ -1,27 +1,25 @@
-//! The calls on sound tables: lists with faults at random places, shared points, other capacities, queries of all
-//! kinds, anything past the m-th point, and an index in any insertion order, with equal home places, going round the
-//! end, and in tables without room.
+//! The calls on sound tables: lists with faults at random places, shared points, other capacities and rooms, queries of
+//! all kinds, points and readings in any order, and anything past them.
 
 use crate::case::Case;
-use crate::check::{Check, Sheets};
-use crate::positions::{beside_point, value, Scene};
+use crate::check::Check;
+use crate::keys::some_fineness;
+use crate::positions::{beside_point, Scene};
 use crate::random::Random;
-use crate::table::{
-    change_length, home_place, lattice_key, some_fineness, Table, GREATEST_CAPACITY, GREATEST_READINGS,
-};
-use std::collections::HashSet;
+use crate::sheets::Sheets;
+use crate::sound::{any_sound, of_readings, of_scene, Spare};
+use crate::table::{change_length, Settings, Table, GREATEST_CAPACITY, GREATEST_READINGS};
 
 /// Fresh tables of every setting, in range and out of it, in slices of right and wrong lengths.
 pub fn fresh(case: &mut Case, check: &mut Check) {
     let random = &mut case.random;
-    let d = 1 + random.below(5);
-    let capacity = if random.once_in(20) {
-        GREATEST_CAPACITY - random.below(2)
-    } else {
-        1 + random.below(60)
+    let settings = Settings {
+        d: 1 + random.below(5),
+        fineness: some_fineness(random),
+        capacity: often_small(random, GREATEST_CAPACITY),
+        room: often_small(random, GREATEST_READINGS),
     };
-    let fineness = some_fineness(random);
-    let mut table = Table::lent(random, d, fineness, capacity);
+    let mut table = Table::lent(random, settings);
     match random.below(5) {
         0 => table.change_a_setting(random),
         1 => table.change_a_length(random),
@@ -30,15 +28,21 @@ pub fn fresh(case: &mut Case, check: &mut Check) {
     check.fresh(&mut table);
 }
 
+fn often_small(random: &mut Random, greatest: usize) -> usize {
+    if random.once_in(20) {
+        greatest - random.below(2)
+    } else {
+        1 + random.below(60)
+    }
+}
+
 /// Lists of readings, some with faults, some not of whole items, into tables that are empty, filled or full.
 pub fn enter(case: &mut Case, check: &mut Check) {
     let random = &mut case.random;
-    let mut table = Table::any_sound(random, 60);
-    let (d, fineness) = (table.head.d, table.head.fineness);
-    let fault_once_in = random.pick(&[0, 0, 5, 20]);
-    let mut scene = Scene::new(random, d, fineness, fault_once_in);
+    let (mut table, scene) = any_sound(random, 10);
+    let mut scene = scene.with_faults(random.pick(&[0, 0, 5, 20]));
     for _ in 0..3 {
-        let count = random.below(12);
+        let count = random.below(8);
         let mut list = scene.readings(random, count);
         if random.once_in(12) {
             change_length(random, &mut list);
@@ -47,58 +51,50 @@ pub fn enter(case: &mut Case, check: &mut Check) {
     }
 }
 
-/// Merges with shared points, other capacities, other settings, a copy of the target, and too little room.
+/// Merges with shared points, other capacities and rooms, other settings, a copy of the target, and too little room.
+/// The second time the target holds the source's numbers already.
 pub fn merge(case: &mut Case, check: &mut Check) {
     let random = &mut case.random;
-    let mut target = Table::any_sound(random, 50);
-    let (mut d, mut fineness) = (target.head.d, target.head.fineness);
-    if random.once_in(12) {
-        d = 1 + random.below(5);
-    }
-    if random.once_in(12) {
-        fineness = some_fineness(random);
-    }
-    let source = match random.below(5) {
+    let (mut target, mut scene) = any_sound(random, 10);
+    let source = match random.below(8) {
         0 => target.clone(),
-        1 if (d, fineness) == (target.head.d, target.head.fineness) => sharing_table(random, &target),
-        _ => {
-            let capacity = 1 + random.below(50);
-            Table::some_sound(random, (d, fineness, capacity))
-        }
+        1 | 2 => renumbered(random, &target, &mut scene),
+        3 => any_sound(random, 10).0,
+        4 => of_other_fineness(random, &target),
+        _ => of_scene(random, &mut scene, 10),
     };
     check.merge(&mut target, &source);
     check.merge(&mut target, &source);
 }
 
-/// A table that has some of the target's keys and some of its own, in another order.
-fn sharing_table(random: &mut Random, target: &Table) -> Table {
-    let d = target.head.d;
-    let mut keys: HashSet<Vec<i32>> = (0..random.below(8)).map(|_| lattice_key(random, d, 3)).collect();
-    keys.extend(
-        (0..target.head.points)
-            .filter(|_| random.once_in(2))
-            .map(|number| target.key(number).to_vec()),
-    );
-    // A set has no order of its own that could be told again.
-    let mut keys: Vec<Vec<i32>> = keys.into_iter().collect();
-    keys.sort();
-    random.shuffle(&mut keys);
-    let capacity = keys.len() + 1 + random.below(20);
-    let readings = keys.len() + random.below(50);
-    let readings = if keys.is_empty() { 0 } else { readings };
-    Table::of_keys(random, (d, target.head.fineness, capacity), readings, keys)
+/// A table with the readings of another under other numbers, some left out: it has points of the other and none else.
+pub fn renumbered(random: &mut Random, table: &Table, scene: &mut Scene) -> Table {
+    let mut readings = table.readings();
+    readings.retain(|_| random.below(4) > 0);
+    for reading in &mut readings {
+        reading[0] = scene.numbers.another(random);
+    }
+    let spare = Spare::some(random);
+    of_readings(random, (table.head.d, table.head.fineness), readings, spare)
+}
+
+/// A table of the same dimension with another fineness.
+fn of_other_fineness(random: &mut Random, table: &Table) -> Table {
+    let fineness = 1 + table.head.fineness % 64;
+    let mut scene = Scene::new(random, table.head.d, fineness, 0);
+    of_scene(random, &mut scene, 6)
 }
 
 /// Lists of sound tables, in lists of right and wrong lengths.
 pub fn list(case: &mut Case, check: &mut Check) {
     let random = &mut case.random;
-    let greatest = random.pick(&[5, 60, 400]);
-    let table = Table::any_sound(random, greatest);
+    let most = random.pick(&[2, 12, 60]);
+    let (table, _) = any_sound(random, most);
     list_of(random, check, &table);
 }
 
 /// Compares the list of a table, in a list full of random numbers, sometimes of another length.
-fn list_of(random: &mut Random, check: &mut Check, table: &Table) {
+pub fn list_of(random: &mut Random, check: &mut Check, table: &Table) {
     let mut list: Vec<u16> = (0..table.head.capacity).map(|_| random.bits() as u16).collect();
     if random.once_in(15) {
         change_length(random, &mut list);
@@ -109,24 +105,21 @@ fn list_of(random: &mut Random, check: &mut Check, table: &Table) {
 /// Filters with queries of all kinds and with none, over points near one another and far apart.
 pub fn filter(case: &mut Case, check: &mut Check) {
     let random = &mut case.random;
-    let greatest = random.pick(&[5, 60, 200]);
-    let mut table = Table::any_sound(random, greatest);
-    let (d, fineness) = (table.head.d, table.head.fineness);
-    let mut scene = Scene::within(d, fineness, 4 * i64::from(fineness), random.pick(&[0, 6]));
-    let list = scene.readings(random, 5);
-    check.enter(&mut table, &list);
+    let most = random.pick(&[2, 12, 30]);
+    let (table, scene) = any_sound(random, most);
+    let mut scene = scene.with_faults(random.pick(&[0, 6]));
     filter_of(random, check, &table, &mut scene);
 }
 
 /// Compares filter over a table with queries of the scene and beside stored points, sometimes with one lent slice of
 /// another length.
-fn filter_of(random: &mut Random, check: &mut Check, table: &Table, scene: &mut Scene) {
+pub fn filter_of(random: &mut Random, check: &mut Check, table: &Table, scene: &mut Scene) {
     let count = random.below(6);
     let mut queries = scene.queries(random, count);
     queries.extend(beside_points(random, table).concat());
     let mut sheets = Sheets::lent(random, table.head.d, table.head.capacity, queries);
     if random.once_in(10) {
-        change_a_sheet(random, &mut sheets);
+        sheets.change_a_length(random);
     }
     check.filter(table, &mut sheets);
 }
@@ -141,107 +134,9 @@ fn beside_points(random: &mut Random, table: &Table) -> Vec<Vec<i32>> {
         .collect()
 }
 
-/// Gives one of the slices that filter is lent another length.
-pub fn change_a_sheet(random: &mut Random, sheets: &mut Sheets) {
-    match random.below(5) {
-        0 => change_length(random, &mut sheets.first),
-        1 => change_length(random, &mut sheets.second),
-        2 => change_length(random, &mut sheets.queries),
-        3 => change_length(random, &mut sheets.values),
-        _ => change_length(random, &mut sheets.codes),
-    }
-}
-
-/// Different keys whose home places all are among the `span` places from `start` on, round the end.
-fn keys_at_home(
-    random: &mut Random,
-    (d, capacity): (usize, usize),
-    (start, span): (usize, usize),
-    count: usize,
-) -> Vec<Vec<i32>> {
-    let mut seen = HashSet::new();
-    let mut keys = Vec::with_capacity(count);
-    // Near enough for queries beside the keys, and wider by and by: with d = 1 and a capacity that shares a divisor
-    // with 2,531,011, small keys do not have every home place.
-    let mut reach = if d == 1 { 3_000 } else { 60 };
-    let greatest_reach = 900_000 / ((d + 1) * d) as i64;
-    while keys.len() < count {
-        let key = lattice_key(random, d, reach);
-        let distance = (home_place(&key, capacity) + 2 * capacity - start) % (2 * capacity);
-        if distance < span && seen.insert(key.clone()) {
-            keys.push(key);
-        } else if random.once_in(1_000) {
-            reach = (2 * reach).min(greatest_reach);
-        }
-    }
-    keys
-}
-
-/// All calls on a table of these keys: list, filter, a merge of its copy into an empty table, and further readings.
-fn every_call(random: &mut Random, check: &mut Check, settings: (usize, u32, usize), keys: Vec<Vec<i32>>) {
-    let (d, fineness, capacity) = settings;
-    let readings = if keys.is_empty() {
-        0
-    } else {
-        keys.len() + random.below(30)
-    };
-    let mut table = Table::of_keys(random, settings, readings, keys);
-    list_of(random, check, &table);
-    let mut scene = Scene::within(d, fineness, 4 * i64::from(fineness), 0);
-    filter_of(random, check, &table, &mut scene);
-    let other_capacity = random.pick(&[capacity, capacity, 2 * capacity, table.head.points.max(2) - 1]);
-    let mut target = Table::empty(random, d, fineness, other_capacity);
-    check.merge(&mut target, &table);
-    let list = readings_beside(random, &table);
-    check.enter(&mut table, &list);
-    check.merge(&mut table, &target);
-}
-
 /// Readings beside points of the table, which need none or few new points.
-fn readings_beside(random: &mut Random, table: &Table) -> Vec<i32> {
-    let mut readings = beside_points(random, table);
-    readings.iter_mut().for_each(|reading| reading.push(value(random)));
-    readings.concat()
-}
-
-/// Keys that share a few home places, so that searches pass over one another.
-pub fn equal_homes(case: &mut Case, check: &mut Check) {
-    let random = &mut case.random;
-    let d = 1 + random.below(5);
-    let capacity = 4 + random.below(40);
-    let (start, span) = (random.below(2 * capacity), 1 + random.below(3));
-    let count = 2 + random.below(capacity - 2);
-    let keys = keys_at_home(random, (d, capacity), (start, span), count);
-    let fineness = some_fineness(random);
-    every_call(random, check, (d, fineness, capacity), keys);
-}
-
-/// Keys whose home places are the last ones, so that searches go round the end.
-pub fn round_the_end(case: &mut Case, check: &mut Check) {
-    let random = &mut case.random;
-    let d = 1 + random.below(5);
-    let capacity = 3 + random.below(30);
-    let count = 2 + random.below(capacity - 1);
-    let keys = keys_at_home(random, (d, capacity), (2 * capacity - 2, 3), count);
-    let fineness = some_fineness(random);
-    every_call(random, check, (d, fineness, capacity), keys);
-}
-
-/// Tables with m = C, of every small capacity, most of them merged with points they have already.
-pub fn every_place_taken(case: &mut Case, check: &mut Check) {
-    let random = &mut case.random;
-    let (d, fineness) = (1 + random.below(5), some_fineness(random));
-    let capacity = 1 + random.below(24);
-    let readings = (capacity + random.below(200)).min(GREATEST_READINGS);
-    let mut table = Table::sound(random, (d, fineness, capacity), readings, capacity);
-    list_of(random, check, &table);
-    let mut scene = Scene::within(d, fineness, 3 * i64::from(fineness), 0);
-    filter_of(random, check, &table, &mut scene);
-    // Readings at points that are stored have room in a full table.
-    for _ in 0..4 {
-        let list = readings_beside(random, &table);
-        check.enter(&mut table, &list);
-    }
-    let source = sharing_table(random, &table);
-    check.merge(&mut table, &source);
+pub fn readings_beside(random: &mut Random, table: &Table, scene: &mut Scene) -> Vec<i32> {
+    let positions = beside_points(random, table);
+    let readings = positions.iter().map(|position| scene.reading_at(random, position));
+    readings.collect::<Vec<_>>().concat()
 }

@@ -1,39 +1,39 @@
-//! Soundness of tables with a book. Each table here that is refused keeps all of document 01's clauses, so that only
-//! what ticket 8 adds can refuse it.
+//! What ticket 8 adds to soundness. Each table here that is refused keeps all of document 01's clauses, so that only the
+//! book can refuse it; `soundness.rs` has unit tests of those clauses themselves.
 
-use crate::booked_table::{index_of, BookedTable};
+use crate::table::{index_of, Table};
 
-/// Refused with 3 by withdraw, enter and merge from both sides, all without a change, where document 01's table of the
-/// first three slices is sound.
-fn refused_for_its_book(table: &BookedTable) -> bool {
-    assert!(table.without_book().list().is_ok(), "document 01's clauses hold");
+/// Refused with 3 by every call that takes a table, and from both sides of a merge, all without a change.
+fn refused_for_its_book(table: &Table) -> bool {
     let mut tried = table.clone();
-    let mut other = BookedTable::fresh(1, 2, 8, 3);
+    let mut other = Table::fresh(1, 2, 8, 3);
     let numbers = [
         tried.withdraw(7).number,
         tried.withdraw(99).number,
         tried.enter(&[]).number,
         tried.merge(&other).number,
         other.merge(table).number,
+        tried.list().err().unwrap_or(0),
+        tried.filter(&[]).number,
     ];
     assert_eq!(tried, *table);
-    assert_eq!(other, BookedTable::fresh(1, 2, 8, 3));
-    numbers == [3; 5]
+    assert_eq!(other, Table::fresh(1, 2, 8, 3));
+    numbers == [3; 7]
 }
 
-fn worked_with(change: impl Fn(&mut BookedTable)) -> BookedTable {
-    let mut table = BookedTable::worked();
+fn worked_with(change: impl Fn(&mut Table)) -> Table {
+    let mut table = Table::worked();
     change(&mut table);
     table
 }
 
-fn refused_with(change: impl Fn(&mut BookedTable)) -> bool {
+fn refused_with(change: impl Fn(&mut Table)) -> bool {
     refused_for_its_book(&worked_with(change))
 }
 
 #[test]
 fn the_worked_table_is_sound_whatever_stands_past_its_readings_and_points() {
-    let mut table = BookedTable::worked();
+    let mut table = Table::worked();
     assert!(table.is_sound());
     table.keys[2..].fill(i32::MIN);
     table.sums[4..].fill(i64::MIN);
@@ -73,7 +73,7 @@ fn a_book_of_other_readings() {
 #[test]
 fn a_touched_point_that_is_missing() {
     // All of the mass and of the value sum is at (1, -1), and (2, -2) is not stored.
-    let missing = |table: &mut BookedTable| {
+    let missing = |table: &mut Table| {
         table.head.points = 1;
         table.keys[0] = 1;
         table.sums[..2].copy_from_slice(&[8, 56]);
@@ -84,7 +84,7 @@ fn a_touched_point_that_is_missing() {
 
 #[test]
 fn a_stored_point_that_no_reading_touches() {
-    let too_many = |table: &mut BookedTable| {
+    let too_many = |table: &mut Table| {
         table.head.points = 3;
         table.keys[2] = 4;
         table.sums[2..6].copy_from_slice(&[5, 36, 1, 0]);
@@ -106,8 +106,8 @@ fn more_readings_than_the_room() {
 }
 
 /// One point (1, -1) with two readings at (2, -2), the first of this value and the second of value 0.
-fn two_at_one_point(value: i32) -> BookedTable {
-    let mut table = BookedTable::fresh(1, 2, 8, 3);
+fn two_at_one_point(value: i32) -> Table {
+    let mut table = Table::fresh(1, 2, 8, 3);
     assert_eq!(table.enter(&[7, 2, -2, 0, 8, 2, -2, 0]).taken, 2);
     table.book[3] = value;
     table.sums[1] = 4 * i64::from(value);
@@ -129,7 +129,7 @@ fn a_coordinate_beyond_its_limit() {
     // With S = 64 the position (x, -x) is between the points 15625 and 15626: W is 128, and the weight of 15625 is
     // 128 - 2(x - 1000000), the rest being that of 15626. Both points are well within their own limits.
     let beyond = |x: i32| {
-        let mut table = BookedTable::fresh(1, 64, 8, 3);
+        let mut table = Table::fresh(1, 64, 8, 3);
         assert_eq!(table.enter(&[7, 1_000_000, -1_000_000, 0]).taken, 1);
         let weight = 2 * i64::from(x - 1_000_000);
         table.head.points = 2;
@@ -155,7 +155,7 @@ fn a_reading_off_the_hyperplane() {
     assert!(refused_with(|table| table.book[1] = 4));
     assert!(refused_with(|table| table.book[1..3].fill(i32::MIN)));
     // d = 2: the spread of (2,2,-3) still gives the point (1,1,-2) a weight.
-    let mut plane = BookedTable::fresh(2, 2, 8, 3);
+    let mut plane = Table::fresh(2, 2, 8, 3);
     assert_eq!(plane.enter(&[7, 2, 2, -4, 0]).taken, 1);
     assert!(plane.is_sound());
     plane.book[3] = -3;

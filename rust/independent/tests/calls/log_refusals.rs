@@ -1,13 +1,13 @@
 //! The log reader's refusals: which number comes first, and the place that is told.
 
-use independent::{load, report, Head};
+use independent::{report, Head};
 
+use crate::table::Table;
 use crate::worked_log::WORKED_LOG;
 
 /// Loads a log whose settings, if any, are the worked log's.
 fn refusal(log: &[u8]) -> (u8, usize) {
-    let (mut keys, mut sums, mut index) = (vec![9; 8], vec![9; 16], vec![9; 16]);
-    let loaded = load(log, &mut keys, &mut sums, &mut index);
+    let loaded = Table::lent(1, 8, 4).load(log, 4);
     (loaded.number, loaded.offset)
 }
 
@@ -22,6 +22,7 @@ fn the_first_item_must_be_whole_settings() {
     assert_eq!(refusal(&[0x00]), (12, 0));
     assert_eq!(refusal(&[0x11]), (13, 0));
     assert_eq!(refusal(&[0x25, 1, 2]), (13, 0));
+    assert_eq!(refusal(&[0x73]), (13, 0));
     assert_eq!(refusal(&[0x01]), (15, 0));
     assert_eq!(refusal(&[0x01, 9, 9, 9]), (15, 0));
     assert_eq!(refusal(&[0x01, 0, 2, 8, 0, 0x99]), (1, 0));
@@ -30,7 +31,9 @@ fn the_first_item_must_be_whole_settings() {
 
 #[test]
 fn kinds_that_are_not_listed() {
-    for kind in [0x00, 0x02, 0x0F, 0x10, 0x16, 0x1F, 0x20, 0x26, 0x31, 0xFF] {
+    for kind in [
+        0x00, 0x02, 0x0F, 0x10, 0x16, 0x1F, 0x20, 0x26, 0x31, 0x70, 0x76, 0x7F, 0xF1, 0xFF,
+    ] {
         assert_eq!(refusal(&worked_with(&[kind])), (12, 49), "{kind:02x}");
     }
 }
@@ -67,12 +70,13 @@ fn a_query_is_never_refused_for_its_position() {
 fn a_full_table_refuses_the_reading_that_needs_room() {
     let mut small = WORKED_LOG;
     small[3] = 1;
-    let loaded = load(&small, &mut [9], &mut [9, 9], &mut [9, 9]);
+    let loaded = Table::lent(1, 1, 5).load(&small, 5);
     assert_eq!((loaded.number, loaded.offset), (8, 5));
     let head = Head {
         d: 1,
         fineness: 2,
         capacity: 1,
+        room: 5,
         readings: 0,
         points: 0,
     };

@@ -1,11 +1,9 @@
 //! Tests of the calls as a user of the crate meets them: what they answer, and what they leave in lent memory.
 
-mod book_memory;
-mod book_refusals;
 mod book_soundness;
-mod booked_table;
 mod errors_that_look_right;
 mod lent_memory;
+mod log_numbers;
 mod log_refusals;
 mod order;
 mod refusals;

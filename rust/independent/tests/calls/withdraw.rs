@@ -1,22 +1,11 @@
 //! What a withdrawal leaves in lent memory, number for number. With C = 8 an index has 16 places, and the factor leaves
 //! 3 on division by 16: the home place of a key (a) is 3a, and of a key (a, b) it is 9a + 3b, modulo 16.
 
-use crate::booked_table::{index_of, BookedTable};
-
-#[test]
-fn the_worked_table_with_its_book() {
-    let table = BookedTable::worked();
-    assert_eq!((table.head.room, table.head.readings, table.head.points), (3, 2, 2));
-    assert_eq!(table.keys, [2, 1, 77, 77, 77, 77, 77, 77]);
-    assert_eq!(table.sums[..4], [2, 20, 6, 36]);
-    assert_eq!(table.sums[4..], [-77; 12]);
-    assert_eq!(table.index, index_of(16, &[(6, 1), (3, 2)]));
-    assert_eq!(table.book, [7, 3, -3, 10, -3, 2, -2, 4, 9, 9, 9, 9]);
-}
+use crate::table::{index_of, Table};
 
 #[test]
 fn a_point_without_mass_leaves_and_the_last_takes_its_number() {
-    let mut table = BookedTable::worked();
+    let mut table = Table::worked();
     let given = table.head;
     let answer = table.withdraw(7);
     assert_eq!(answer.number, 0);
@@ -33,7 +22,7 @@ fn a_point_without_mass_leaves_and_the_last_takes_its_number() {
 
 #[test]
 fn a_point_that_keeps_mass_stays() {
-    let mut table = BookedTable::worked();
+    let mut table = Table::worked();
     let answer = table.withdraw(-3);
     assert_eq!((answer.number, answer.head.readings, answer.head.points), (0, 1, 2));
     assert_eq!(table.keys, [2, 1, 77, 77, 77, 77, 77, 77]);
@@ -46,7 +35,7 @@ fn a_point_that_keeps_mass_stays() {
 #[test]
 fn nothing_is_left_of_two_withdrawn_readings() {
     for order in [[7, -3], [-3, 7]] {
-        let mut table = BookedTable::worked();
+        let mut table = Table::worked();
         assert_eq!(order.map(|number| table.withdraw(number).number), [0, 0]);
         assert_eq!((table.head.readings, table.head.points), (0, 0));
         assert_eq!(table.keys, [0, 0, 77, 77, 77, 77, 77, 77]);
@@ -59,8 +48,8 @@ fn nothing_is_left_of_two_withdrawn_readings() {
 
 /// d = 2: reading 7 touches (0,0,0) 1, (1,1,-2) 1, (2,-1,-1) 4; reading -3 touches (15,-6,-9), (16,-5,-11) and
 /// (14,-4,-10), 2 each; reading 0 touches (1,1,-2) 6.
-fn plane() -> BookedTable {
-    let mut table = BookedTable::fresh_with_spare(2, 2, 8, 4);
+fn plane() -> Table {
+    let mut table = Table::fresh_with_spare(2, 2, 8, 4);
     let list = [7, 3, -1, -2, 5, -3, 30, -10, -20, 7, 0, 2, 2, -4, -3];
     assert_eq!(table.enter(&list).taken, 3);
     table
@@ -117,7 +106,7 @@ fn an_entry_from_the_middle_and_the_last_entry() {
 #[test]
 fn the_last_point_takes_the_number_even_where_it_leaves_later() {
     // Reading 1 stores (0,0,0) and (1,1,-2), 2 stores (3,0,-3) and 3 stores (4,1,-5). Reading 4 then adds (2,-1,-1).
-    let mut table = BookedTable::fresh_with_spare(2, 2, 8, 4);
+    let mut table = Table::fresh_with_spare(2, 2, 8, 4);
     let list = [1, 1, 1, -2, 5, 2, 6, 0, -6, 1, 3, 8, 2, -10, 2, 4, 3, -1, -2, 5];
     assert_eq!(table.enter(&list).taken, 4);
     assert_eq!(table.withdraw(1).number, 0);
@@ -138,7 +127,7 @@ fn the_last_point_takes_the_number_even_where_it_leaves_later() {
 #[test]
 fn the_index_is_made_afresh_where_no_point_leaves() {
     // Keys 1 and 17 share the home place 3. The table is sound with 17 there as well.
-    let mut table = BookedTable::fresh(1, 1, 8, 3);
+    let mut table = Table::fresh(1, 1, 8, 3);
     assert_eq!(table.enter(&[1, 1, -1, 5, 2, 17, -17, 6, 3, 1, -1, 7]).taken, 3);
     table.index = index_of(16, &[(3, 2), (4, 1)]);
     assert_eq!(table.withdraw(1).number, 0);
@@ -149,7 +138,7 @@ fn the_index_is_made_afresh_where_no_point_leaves() {
 #[test]
 fn the_index_is_entered_by_the_new_numbers() {
     // Keys 4, 1 and 17 are points 0, 1, 2, and 1 and 17 share the home place 3. Once 4 leaves, 17 is point 0.
-    let mut table = BookedTable::fresh(1, 1, 8, 3);
+    let mut table = Table::fresh(1, 1, 8, 3);
     assert_eq!(table.enter(&[1, 4, -4, 5, 2, 1, -1, 6, 3, 17, -17, 7]).taken, 3);
     assert_eq!(table.index, index_of(16, &[(12, 1), (3, 2), (4, 3)]));
     assert_eq!(table.withdraw(1).number, 0);
@@ -159,7 +148,7 @@ fn the_index_is_entered_by_the_new_numbers() {
 
 #[test]
 fn a_point_with_value_sum_0_stays() {
-    let mut table = BookedTable::fresh(1, 1, 4, 3);
+    let mut table = Table::fresh(1, 1, 4, 3);
     assert_eq!(table.enter(&[1, 1, -1, 5, 2, 1, -1, 0, 3, 1, -1, -5]).taken, 3);
     assert_eq!((table.head.points, &table.sums[..2]), (1, &[6, 0][..]));
     assert_eq!(table.withdraw(1).number, 0);
@@ -171,7 +160,7 @@ fn a_point_with_value_sum_0_stays() {
 
 #[test]
 fn of_two_equal_readings_the_number_says_which_one_goes() {
-    let mut table = BookedTable::fresh(1, 2, 8, 3);
+    let mut table = Table::fresh(1, 2, 8, 3);
     let list = [5, 3, -3, 10, i32::MIN, 3, -3, 10, i32::MAX, 3, -3, 10];
     assert_eq!(table.enter(&list).taken, 3);
     assert_eq!(table.withdraw(i32::MIN).number, 0);
@@ -183,7 +172,7 @@ fn of_two_equal_readings_the_number_says_which_one_goes() {
 
 #[test]
 fn a_withdrawn_number_and_its_room_may_be_used_again() {
-    let mut table = BookedTable::fresh(1, 2, 2, 2);
+    let mut table = Table::fresh(1, 2, 2, 2);
     assert_eq!(table.enter(&[7, 3, -3, 10, -3, 2, -2, 4]).taken, 2);
     // Book and capacity are full: key 20 needs a place of its own.
     assert_eq!(table.enter(&[8, 40, -40, 1]).number, 7);
@@ -200,7 +189,7 @@ fn a_withdrawn_number_and_its_room_may_be_used_again() {
 
 #[test]
 fn the_stored_order_of_a_sound_table_is_free() {
-    let mut table = BookedTable::worked();
+    let mut table = Table::worked();
     table.keys[..2].copy_from_slice(&[1, 2]);
     table.sums[..4].copy_from_slice(&[6, 36, 2, 20]);
     table.index = index_of(16, &[(3, 1), (6, 2)]);

@@ -1,10 +1,9 @@
 //! After withdrawals a table must be as one that was only ever given the other readings: the same listing, total and
 //! answers. Its memory is held to a model of ticket 8 over a list of points in stored order, where a point that leaves
-//! is swapped with the last, and its index to that of document 01's merge into a fresh table.
+//! is swapped with the last, and its index to that of merging the table into a fresh one.
 
 use independent::Store;
 
-use crate::booked_table::BookedTable;
 use crate::table::Table;
 
 /// Every table here has room for all points and readings.
@@ -57,14 +56,14 @@ impl Case {
     }
 
     /// A table that is given these readings and no others.
-    fn table_of(&self, readings: &[Vec<i32>]) -> BookedTable {
-        let mut table = BookedTable::fresh_with_spare(self.d, self.fineness, CAPACITY, ROOM);
+    fn table_of(&self, readings: &[Vec<i32>]) -> Table {
+        let mut table = Table::fresh_with_spare(self.d, self.fineness, CAPACITY, ROOM);
         assert_eq!(table.enter(&readings.concat()).taken, readings.len());
         table
     }
 
     /// The table of all readings, the last ones merged from another.
-    fn merged_table(&self, split: usize) -> BookedTable {
+    fn merged_table(&self, split: usize) -> Table {
         let (left, right) = self.readings.split_at(split);
         let mut table = self.table_of(left);
         assert_eq!(table.merge(&self.table_of(right)).number, 0);
@@ -90,20 +89,20 @@ impl Case {
     }
 
     /// The table is sound, holds these readings in this order, and lists and answers as one never given another.
-    fn assert_holds_only(&self, table: &BookedTable, readings: &[Vec<i32>]) {
+    fn assert_holds_only(&self, table: &Table, readings: &[Vec<i32>]) {
         assert!(table.is_sound());
         assert_eq!(table.head.readings, readings.len());
         assert_eq!(table.book[..readings.len() * (self.d + 3)], readings.concat());
-        let (left, never_given) = (table.without_book(), self.table_of(readings).without_book());
+        let never_given = self.table_of(readings);
         let store = self.store_of(readings);
-        assert_eq!(left.listing(), never_given.listing());
-        assert_eq!(left.listing(), store.listing());
+        assert_eq!(table.listing(), never_given.listing());
+        assert_eq!(table.listing(), store.listing());
         let total: i64 = rows(table).iter().map(|row| row.1).sum();
         assert_eq!(
             total,
             (self.d as i64 + 1) * i64::from(self.fineness) * readings.len() as i64
         );
-        let answers = left.answers(&self.queries());
+        let answers = table.answers(&self.queries());
         assert_eq!(answers, never_given.answers(&self.queries()));
         assert_eq!(answers, store.answers(&self.queries()));
     }
@@ -113,7 +112,7 @@ impl Case {
 type Row = (Vec<i32>, i64, i64);
 
 /// The points in stored order.
-fn rows(table: &BookedTable) -> Vec<Row> {
+fn rows(table: &Table) -> Vec<Row> {
     let d = table.head.d;
     let row = |i: usize| {
         let key = table.keys[d * i..d * (i + 1)].to_vec();
@@ -139,16 +138,16 @@ fn rows_without(mut rows: Vec<Row>, parts: &[Row]) -> Vec<Row> {
     rows
 }
 
-/// The index of entering a table's points afresh by number: document 01's merge appends them so.
-fn index_afresh(table: &BookedTable) -> Vec<u16> {
-    let mut fresh = Table::fresh(table.head.d, table.head.fineness, table.head.capacity);
-    assert_eq!(fresh.merge(&table.without_book()).number, 0);
+/// The index of entering a table's points afresh by number: a merge appends them so.
+fn index_afresh(table: &Table) -> Vec<u16> {
+    let mut fresh = Table::fresh(table.head.d, table.head.fineness, CAPACITY, ROOM);
+    assert_eq!(fresh.merge(table).number, 0);
     fresh.index
 }
 
 /// The memory after a withdrawal from `before` of the one reading that `single` holds. Keys, sums and book are 0 where
 /// something was vacated, and past the old ends as they were.
-fn assert_memory(after: &BookedTable, before: &BookedTable, single: &BookedTable) {
+fn assert_memory(after: &Table, before: &Table, single: &Table) {
     let expected = rows_without(rows(before), &rows(single));
     assert_eq!(rows(after), expected);
     let vacated = |new: usize, old: usize, width: usize| (width * new..width * old, width * old..);

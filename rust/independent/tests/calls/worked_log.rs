@@ -1,6 +1,6 @@
 //! Document 01's worked log of 49 bytes: its output, its table after loading, and its answers.
 
-use independent::{load, report, Head};
+use independent::{report, Head};
 
 use crate::table::Table;
 
@@ -49,23 +49,20 @@ fn a_query_of_a_bad_position_is_refused_only_in_its_answer() {
 }
 
 #[test]
-fn loading_gives_the_entered_table() {
-    let (mut keys, mut sums, mut index) = (vec![9; 8], vec![9; 16], vec![9; 16]);
-    let loaded = load(&WORKED_LOG, &mut keys, &mut sums, &mut index);
+fn loading_gives_the_entered_table_with_numbers_from_0_up() {
+    let mut table = Table::lent(1, 8, 3);
+    let loaded = table.load(&WORKED_LOG, 3);
     assert_eq!((loaded.number, loaded.offset), (0, 49));
     let head = Head {
         d: 1,
         fineness: 2,
         capacity: 8,
+        room: 3,
         readings: 2,
         points: 2,
     };
     assert_eq!(loaded.head, head);
-    let table = Table {
-        head,
-        keys,
-        sums,
-        index,
-    };
-    assert_eq!(table, Table::worked());
+    let mut entered = Table::fresh(1, 2, 8, 3);
+    assert_eq!(entered.enter(&[0, 3, -3, 10, 1, 2, -2, 4]).taken, 2);
+    assert_eq!(table, entered);
 }

@@ -12,7 +12,7 @@ use Rattle.withdraw.proofs.taking.take_back.Statement.{statement}
 use Rattle.withdraw.proofs.taking.take_back.Tie as tie
 
 abbrev of : tie.Start → Booked
-of s = booked (s .args .head) (s .args .room) (s .args .keys .now) (s .args .sums .now) (s .args .index .now) (s .args .book .now)
+of s = booked (s .args .head) (s .args .keys .now) (s .args .sums .now) (s .args .index .now) (s .args .book .now)
 
 fit : (s : tie.Start) → let a = s .args in (a .head .d + 3) * a .j + (a .head .d + 3) ≤ (most-d + 3) * most-readings
 fit s = entry-low (settings (s .args .head)) (of s) (s .pre .0) (s .args .j) (s .pre .1)
