@@ -1,5 +1,7 @@
 // The blur of a table, on two work sheets: d + 1 passes, each from the first sheet to the second and
 // back. What a pass is stands in specs/; that it is linear and keeps its bounds, in proofs/.
+#![tactic(auto)]
+
 ghost use Rattle.std.specs.Prelude.{◌≡◌, suc, ◌*◌, ◌≤◌, length, take};
 ghost use Rattle.whole.specs.Lists.{splice};
 ghost use Rattle.table.specs.Heads.{settings, table, table_in};

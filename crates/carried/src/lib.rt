@@ -1,5 +1,7 @@
 // Whether a table is sound with its book, on lent memory that may hold anything. Refusals 1, 2 and 3
 // of a call on a table with its book, which every such call makes first.
+#![tactic(auto)]
+
 ghost use Rattle.std.specs.Prelude.{◌≡◌, ◌+◌, ◌*◌, ◌≤◌, length};
 ghost use Rattle.lattice.specs.Limits.{most_readings};
 ghost use Rattle.table.specs.Sound.{Ranged, Shape};

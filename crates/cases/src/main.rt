@@ -8,6 +8,8 @@
 // document 02's, computed by hand. The filter is also run on a table of no readings, and with one query
 // where there are five values, which is number 2 and leaves everything as it was. Last come logs, each
 // with the report that dyemap prints for it.
+#![tactic(auto)]
+
 ghost use Rattle.std.specs.Prelude.{◌≡◌, ◌<◌, ◌≤◌, length};
 
 mod filtered;

@@ -1,6 +1,8 @@
 // dyemap: reads one log from standard input and prints its report on standard output. What is printed
 // for the bytes read is report's contract. That these are the bytes of the input, and that what is
 // printed arrives, no proof covers: where reading or writing fails, standard error says so.
+#![tactic(auto)]
+
 ghost use Rattle.std.specs.Prelude.{◌≤◌, length};
 
 use libc::{STDERR_FILENO, STDIN_FILENO, STDOUT_FILENO};

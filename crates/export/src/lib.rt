@@ -3,6 +3,8 @@
 // each behind a pointer where the call hands a head back. The contracts are the calls' own, of the
 // heads that the six numbers make. Nothing proves that a caller in another language passes what
 // these declarations say: c/vimrothi.h has what it owes.
+#![tactic(auto)]
+
 ghost use Rattle.table.specs.Table.{Settings};
 ghost use Rattle.table.specs.Heads.{head_of, settings};
 ghost use Rattle.book.specs.Calls.{fresh_refusal, after_fresh, enter, merge_refusal, after_merge, withdraw_refusal, after_withdraw};

@@ -1,6 +1,8 @@
 // The filter: a table's pairs blurred, and the smoothed value at each queried position. What the
 // answers are stands in specs/; that they lie between the values entered and depend on the table's
 // map alone, in proofs/.
+#![tactic(auto)]
+
 ghost use Rattle.std.specs.Prelude.{◌≡◌};
 ghost use Rattle.table.specs.Heads.{settings};
 ghost use Rattle.book.specs.Heads.{booked_in};

@@ -1,5 +1,7 @@
 // The listing: the point numbers of a table in the order of their keys. What a listing is, and what
 // the call leaves, stands in specs/; that there is one listing of a table, in proofs/.
+#![tactic(auto)]
+
 ghost use Rattle.table.specs.Heads.{settings};
 ghost use Rattle.book.specs.Heads.{booked_in};
 ghost use Rattle.listing.specs.Listing.{ListsIn};

@@ -1,6 +1,8 @@
 // Merging: a source table is read with its book, and each of its pairs is added to a target table in
 // lent memory, its readings to the target's book, all or nothing. Both are judged before anything is
 // written.
+#![tactic(auto)]
+
 ghost use Rattle.table.specs.Heads.{settings};
 ghost use Rattle.book.specs.Calls.{merge_refusal, after_merge};
 ghost use Rattle.book.specs.Heads.{booked_in, AnswersBookIn};

@@ -1,5 +1,7 @@
 // The numbers of a book: whether no two entries have one, told by an index of their own. The calls
 // that ask whether a number is held ask the same index.
+#![tactic(auto)]
+
 ghost use Rattle.std.specs.Prelude.{◌≡◌, true, not, ◌+◌, ◌*◌, ◌≤◌, ◌<◌, length};
 ghost use Rattle.whole.specs.Sum.{all};
 ghost use Rattle.whole.specs.Lists.{at};

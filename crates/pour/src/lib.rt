@@ -1,5 +1,7 @@
 // Rows added to a table in lent memory, which is what entering a reading and merging a table do:
 // "A point not yet stored is appended after the last, starting from 0."
+#![tactic(auto)]
+
 ghost use Rattle.std.specs.Prelude.{◌≡◌, length};
 ghost use Rattle.index.specs.Search.{Searchable};
 ghost use Rattle.table.specs.Table.{Row};

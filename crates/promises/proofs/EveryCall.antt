@@ -23,7 +23,7 @@ use Rattle.reader.specs.Reader.{here, moved_on}
 use Rattle.log.specs.Loading.{load, Loads}
 use Rattle.report.specs.Report.{report, fitting, Reports}
 use Rattle.export.specs.Numbers as numbers
-use Rattle.promises.specs.Contracts.{Only, One, Ensures, Requires, AnswerAndMemory, Allows, Answering}
+use Rattle.promises.specs.Allowed.{Only, One, Ensures, Requires, AnswerAndMemory, Allows, Answering}
 use Rattle.promises.specs.EveryCall.{EveryCallOne, ReaderOne, ReaderSays, RefusedLeavesAll}
 
 -- ---- what a call on a table with its book answers and leaves

@@ -18,7 +18,7 @@ use Rattle.filter.specs.Filter.{Lent, filter_refusal, after_filter}
 use Rattle.reader.specs.declared.Reader.{Reader}
 use Rattle.reader.specs.declared.items.Item.{Item}
 use Rattle.reader.specs.Reader.{here, moved_on}
-use Rattle.promises.specs.Contracts.{One, Answering}
+use Rattle.promises.specs.Allowed.{One, Answering}
 use Rattle.book.proofs.fresh.fresh as fresh_call
 use Rattle.enter.proofs.enter as enter_call
 use Rattle.merge.proofs.merge as merge_call

@@ -1,5 +1,5 @@
 -- Functions that are `pub` only because another crate of the library calls them; docs/INNER.md lists them with what they ask.
-use Rattle.promises.specs.Contracts.{OnlyOutcome}
+use Rattle.promises.specs.Allowed.{OnlyOutcome}
 use Rattle.whole.proofs.division.remainder_of
 use Rattle.whole.proofs.division.floor_of
 use Rattle.whole.proofs.round.round_fraction

@@ -6,7 +6,7 @@ pub mod Printing
 pub mod Filter
 pub mod Refusals
 pub mod LogRefusals
-pub mod Contracts
+pub mod Allowed
 pub mod EveryCall
 pub mod Inner
 pub mod Starred

@@ -1,5 +1,7 @@
 // The report: what dyemap prints for a log, rendered into a lent buffer. What is printed stands in
 // specs/; that a buffer of ROOM bytes suffices for every log, in proofs/.
+#![tactic(auto)]
+
 ghost use Rattle.std.specs.Prelude.{length};
 ghost use Rattle.table.specs.Calls.{lent};
 ghost use Rattle.table.specs.Heads.{settings, table, table_in};

@@ -1,5 +1,7 @@
 // What a reading adds to a table: the points of its enclosing simplex, slot by slot, which is in
 // ascending remainder.
+#![tactic(auto)]
+
 ghost use Rattle.std.specs.Prelude.{◌≡◌, suc, ◌≤◌, ◌<◌, pos, nat_abs, ◌*ℤ◌};
 ghost use Rattle.lattice.specs.Limits.{most_W, most_value};
 ghost use Rattle.table.specs.Pour.{pour, news_in};

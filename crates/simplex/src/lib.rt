@@ -1,4 +1,6 @@
 // The enclosing simplex of a position: its points of weight above 0, a slot for each remainder.
+#![tactic(auto)]
+
 ghost use Rattle.std.specs.Prelude.{◌≡◌, ◌*◌};
 ghost use Rattle.whole.specs.Lists.{splice};
 ghost use Rattle.lattice.specs.Limits.{most_coords};

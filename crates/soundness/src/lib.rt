@@ -1,5 +1,7 @@
 // Whether a table is sound, on lent memory that may hold anything: nothing wraps and nothing is read
 // out of range. What soundness adds for the book is tested after it.
+#![tactic(auto)]
+
 ghost use Rattle.std.specs.Prelude.{◌≡◌};
 ghost use Rattle.table.specs.Sound.{sound, Ranged, Shape};
 ghost use Rattle.table.specs.Heads.{settings, table, table_in};

@@ -1,5 +1,7 @@
 // Whether the sums of a table are those of its book's readings: every reading is spread over the
 // points that are stored, on a sheet of the function's own, and the sheet is compared with the sums.
+#![tactic(auto)]
+
 ghost use Rattle.std.specs.Prelude.{◌≡◌, ◌*◌, ◌≤◌, pos, length, replicate};
 ghost use Rattle.whole.specs.Sum.{all};
 ghost use Rattle.whole.specs.Lists.{at};

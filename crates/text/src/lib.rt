@@ -1,4 +1,6 @@
 // Lines of text in a lent buffer: a fixed word, whole numbers in decimal, and one line feed.
+#![tactic(auto)]
+
 ghost use Rattle.std.specs.Prelude.{◌≡◌, ◌∷◌, ◌+◌, ◌≤◌, nat_abs, length, drop};
 ghost use Rattle.text.specs.Text.{digits, decimal, spaced, line, most_digits, space, Written};
 

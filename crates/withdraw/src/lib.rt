@@ -1,5 +1,7 @@
 // Withdrawing: one reading is taken back, by its number, from a table with its book in lent memory.
 // Nothing is written before table and book are judged and the number is found.
+#![tactic(auto)]
+
 ghost use Rattle.table.specs.Heads.{settings};
 ghost use Rattle.book.specs.Calls.{withdraw_refusal, after_withdraw};
 ghost use Rattle.book.specs.Heads.{booked_in, AnswersBookIn};
