@@ -6,7 +6,7 @@ ghost use Rattle.blur.specs.Inner.{Readable, PairIs};
 use table::Head;
 
 // Whether a point is stored, and its two numbers, which are 0 where it is not.
-#[derive(Drop)]
+#[derive(Clone, Copy)]
 pub struct Pair {
     pub stored: bool,
     pub mass: i64,

@@ -15,7 +15,7 @@ use table::Head;
 
 // The weights of the points that are stored, and weight times mass and weight times value sum, summed
 // over them.
-#[derive(Drop)]
+#[derive(Clone, Copy)]
 pub struct Weighed {
     pub weight: i64,
     pub mass: i64,

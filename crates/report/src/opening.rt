@@ -10,7 +10,7 @@ use reader::settings::settings_of;
 use table::settings::in_range;
 
 // What a log's settings ask for, or the number by which they are refused.
-#[derive(Drop)]
+#[derive(Clone, Copy)]
 pub struct Opening {
     pub number: u8,
     pub d: usize,

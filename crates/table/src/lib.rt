@@ -10,7 +10,7 @@ pub mod reading;
 pub mod settings;
 
 // The settings (d, S, C and the room B of the book) and the numbers of readings and of points.
-#[derive(Drop)]
+#[derive(Clone, Copy)]
 pub struct Head {
     pub d: usize,
     pub fineness: u32,
@@ -21,7 +21,7 @@ pub struct Head {
 }
 
 // What a call answers: document 01's number, 0 where it was done, and the head.
-#[derive(Drop)]
+#[derive(Clone, Copy)]
 pub struct Answer {
     pub number: u8,
     pub head: Head,

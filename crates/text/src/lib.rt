@@ -5,7 +5,7 @@ ghost use Rattle.std.specs.Prelude.{◌≡◌, ◌∷◌, ◌+◌, ◌≤◌, na
 ghost use Rattle.text.specs.Text.{digits, decimal, spaced, line, most_digits, space, Written};
 
 // Decimal digits at the end of an array, from a place on.
-#[derive(Drop)]
+#[derive(Clone, Copy)]
 pub struct Digits {
     pub bytes: [u8; 20],
     pub start: usize,
