@@ -48,8 +48,12 @@ walk_first places stop (suc steps) h k l t = go (stop h) refl k l t (walk_first 
       steps = suc F.steps;
       here = F.here;
       halt = F.halt;
-      pass = λ j. elim j [ zero ↦ λ m s. rw e at s | suc i ↦ λ m. F.pass i (le_of_suc-le-suc m) ];
+      pass = passed F;
     }
+      where
+        passed : (F : First places stop (next places h) rest) → (j : ℕ) → j < suc F.steps → T (stop (ring places h j)) → ⊥
+        passed F zero m s = rw e at s
+        passed F (suc i) m s = F.pass i (le_of_suc-le-suc m) s
 
 -- ---- the ring goes everywhere
 pub next_end : (places p : ℕ) → suc p ≡ places → next places p ≡ 0
