@@ -8,7 +8,7 @@ use crate::split::difference;
 use lattice::limits::MOST_COORDS;
 
 // The sum of the floors of the differences from one place, and the greatest of the remainders.
-#[derive(Drop)]
+#[derive(Clone, Copy)]
 struct Steps {
     total: i32,
     spread: u32,
@@ -16,7 +16,7 @@ struct Steps {
 
 // What a corner is made of beside its floors: their sum, the remainder that its coordinates leave, and
 // its weight.
-#[derive(Drop)]
+#[derive(Clone, Copy)]
 pub struct Corner {
     pub total: i32,
     pub slot: usize,

@@ -19,7 +19,7 @@ pub const SLOT_NUMBERS: usize = MOST_COORDS * MOST_COORDS;
 
 // Slot k is the point that leaves remainder k: its weight, 0 where there is none, and its
 // coordinates from MOST_COORDS * k on. What a slot does not use is 0.
-#[derive(Drop)]
+#[derive(Clone, Copy)]
 pub struct Simplex {
     pub weights: [u32; MOST_COORDS],
     pub coords: [i32; SLOT_NUMBERS],

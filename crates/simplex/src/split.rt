@@ -7,7 +7,7 @@ ghost use Rattle.simplex.specs.Inner.{Total, SplitOf, joined, Part, Between, coo
 use lattice::limits::MOST_COORDS;
 
 // x = w * floor + rest, with rest from 0 to w - 1.
-#[derive(Drop)]
+#[derive(Clone, Copy)]
 pub struct Split {
     pub floor: i32,
     pub rest: i32,
