@@ -18,10 +18,10 @@ use Rattle.index.specs.Indexed.{count, used}
 use Rattle.index.proofs.Count.{count_cong}
 use Rattle.index.proofs.Finding.{keys_apart}
 use Rattle.table.specs.Table.{Settings, Table, Row, key, row, rows, entry, mass_of, keys_of}
-use Rattle.table.specs.Sound.{sound, Good, Ranged, Fine}
+use Rattle.table.specs.Sound.{Good, Ranged, Fine}
 use Rattle.table.specs.Pour.{pour, news, accept}
 use Rattle.table.specs.Reading.{Reading, shares, entered}
-use Rattle.table.specs.Calls.{ranged, fresh, merged}
+use Rattle.table.specs.Calls.{fresh, merged}
 use Rattle.table.proofs.Lists.{all_tab, each_tab}
 use Rattle.table.proofs.Rows.{Apart, Additive}
 use Rattle.table.proofs.Soundness.{fine_kept, masses_over, total_most}

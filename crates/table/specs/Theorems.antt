@@ -1,5 +1,5 @@
 -- What is true of tables. Statements: the proofs stand in proofs/.
-use Rattle.std.specs.Prelude.{◌≡◌, ◌↔◌, List, ℕ, suc, ◌+◌, ◌*◌, ◌<◌, T, ℤ, pos, ◌+ℤ◌, ◌≤ℤ◌}
+use Rattle.std.specs.Prelude.{◌≡◌, ◌↔◌, List, ℕ, suc, ◌*◌, ◌<◌, T, ℤ, pos, ◌+ℤ◌, ◌≤ℤ◌}
 use Rattle.whole.specs.Size.{Abs≤}
 use Rattle.lattice.specs.Limits.{most_value, most_readings, most_W}
 use Rattle.table.specs.Table.{Settings, Table, key, mass, value, entry, found, held}
