@@ -4,7 +4,7 @@
 
 ghost use Rattle.std.specs.Prelude.{◌≡◌, suc, ◌*◌, ◌≤◌, length, take};
 ghost use Rattle.whole.specs.Lists.{splice};
-ghost use Rattle.table.specs.Heads.{settings, table, table_in};
+ghost use Rattle.table.specs.Heads.{settings, table};
 ghost use Rattle.blur.specs.Sheet.{sheet_after};
 ghost use Rattle.blur.specs.Inner.{Returning, passed_sheet, Blurrable, Sheets, Blurred};
 
@@ -38,7 +38,7 @@ fn pass_back(
     k: usize,
 )
     requires { Returning (settings head) (table head keys.now first.old index.now) second.old }
-    ensures { let t = table_in head keys first index in
+    ensures { let t = table head keys.now first.old index.now in
         first.new ≡ passed_sheet (settings head) t k }
 {
     pass(head, keys, index, first, second, k);
@@ -48,7 +48,7 @@ fn pass_back(
 // The passes 0 to d, in that order.
 fn all_passes(head: Head, keys: &[i32], index: &[u16], first: &mut [i64], second: &mut [i64])
     requires { Blurrable (settings head) (table head keys.now first.old index.now) second.old }
-    ensures { let t = table_in head keys first index in
+    ensures { let t = table head keys.now first.old index.now in
         first.new ≡ sheet_after (settings head) t (suc head.d) }
 {
     let n = head.d + 1;
@@ -68,7 +68,7 @@ pub fn blur(
     second: &mut [i64],
 )
     requires { Sheets (settings head) (table head keys.now sums.now index.now) first.old second.old }
-    ensures { let t = table_in head keys sums index in
+    ensures { let t = table head keys.now sums.now index.now in
         Blurred (settings head) t first.new second.new }
 {
     clear_sums(first);

@@ -1,6 +1,6 @@
 // The pair that a sheet has for a point.
 ghost use Rattle.std.specs.Prelude.{◌≡◌, length};
-ghost use Rattle.table.specs.Heads.{settings, table, table_in};
+ghost use Rattle.table.specs.Heads.{settings, table};
 ghost use Rattle.blur.specs.Inner.{Readable, PairIs};
 
 use table::Head;
@@ -17,7 +17,7 @@ pub struct Pair {
 pub fn pair_of(head: Head, keys: &[i32], index: &[u16], sheet: &[i64], key: &[i32]) -> Pair
     requires readable { Readable (settings head) (table head keys.now sheet.now index.now) }
     requires key_len { length key.now ≡ head.d }
-    ensures { let t = table_in head keys sheet index in
+    ensures { let t = table head keys.now sheet.now index.now in
         PairIs (settings head) t key.now result.stored result.mass result.value }
 {
     let place = index::search::search(keys, index, head.capacity, key);

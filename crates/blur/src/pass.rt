@@ -2,7 +2,7 @@
 ghost use Rattle.std.specs.Prelude.{◌≡◌, ◌*◌, ◌<◌, pos, ◌+ℤ◌, ◌*ℤ◌, length};
 ghost use Rattle.whole.specs.Size.{Abs≤};
 ghost use Rattle.index.specs.Keys.{key_at};
-ghost use Rattle.table.specs.Heads.{settings, table, table_in};
+ghost use Rattle.table.specs.Heads.{settings, table};
 ghost use Rattle.blur.specs.Inner.{most_blurred, neighbour_of, PairIs, Passable, NewPair, NewPairs};
 
 use crate::pair::{Pair, pair_of};
@@ -31,7 +31,7 @@ fn neighbour_pair(
 ) -> Pair
     requires passable { Passable (settings head) (table head keys.now sheet.now index.now) }
     requires point_lt_points { point < head.points }
-    ensures { let t = table_in head keys sheet index in
+    ensures { let t = table head keys.now sheet.now index.now in
         PairIs (settings head) t (neighbour_of plus head.d k (key_at head.d keys.now point)) result.stored result.mass result.value }
 {
     let d = head.d;
@@ -46,7 +46,7 @@ fn neighbour_pair(
 fn new_pair(head: Head, keys: &[i32], index: &[u16], sheet: &[i64], point: usize, k: usize) -> Pair
     requires passable { Passable (settings head) (table head keys.now sheet.now index.now) }
     requires point_lt_points { point < head.points }
-    ensures { let t = table_in head keys sheet index in
+    ensures { let t = table head keys.now sheet.now index.now in
         NewPair (settings head) t k (key_at head.d keys.now point) result.mass result.value }
 {
     let a = 2 * point;
@@ -65,7 +65,7 @@ fn new_pair(head: Head, keys: &[i32], index: &[u16], sheet: &[i64], point: usize
 pub fn pass(head: Head, keys: &[i32], index: &[u16], from: &[i64], to: &mut [i64], k: usize)
     requires passable { Passable (settings head) (table head keys.now from.now index.now) }
     requires to_len { length to.old ≡ 2 * head.capacity }
-    ensures { let t = table_in head keys from index in
+    ensures { let t = table head keys.now from.now index.now in
         NewPairs (settings head) t k head.points to.new }
 {
     let m = head.points;

@@ -82,7 +82,7 @@ module _ (c : Settings) (rest : List Reading) (z : (Row → ℤ) → ℤ) where
       shape = L.shape;
       room = L.room;
       apart = L.apart;
-      good = L.well-formed;
+      good = L.good;
       masses = L.masses;
       values = L.values;
       full = L.full;

@@ -8,7 +8,7 @@ ghost use Rattle.table.specs.Sound.{Ranged, Shape};
 ghost use Rattle.table.specs.Heads.{settings, table};
 ghost use Rattle.book.specs.Book.{sound_with_book};
 ghost use Rattle.book.specs.Calls.{call_refusal};
-ghost use Rattle.book.specs.Heads.{booked_in};
+ghost use Rattle.book.specs.Heads.{booked};
 
 mod limits;
 
@@ -26,7 +26,7 @@ pub fn is_carried(head: Head, keys: &[i32], sums: &[i64], index: &[u16], book: &
     requires ranged { Ranged (settings head) }
     requires shape { Shape (settings head) (table head keys.now sums.now index.now) }
     requires room_le_most_readings { (head.room ≤ most_readings) × (length book.now ≡ (head.d + 3) * head.room) }
-    ensures { result ≡ sound_with_book (settings head) (booked_in head keys sums index book) }
+    ensures { result ≡ sound_with_book (settings head) (booked head keys.now sums.now index.now book.now) }
 {
     if !is_sound(head, keys, sums, index) {
         return false;
@@ -53,7 +53,7 @@ pub fn refusal_of(
     book: &[i32],
     more: bool,
 ) -> u8
-    ensures { result ≡ call_refusal (settings head) (booked_in head keys sums index book) more }
+    ensures { result ≡ call_refusal (settings head) (booked head keys.now sums.now index.now book.now) more }
 {
     if !in_range(head.d, head.fineness, head.capacity, head.room) {
         return SETTINGS_OUT_OF_RANGE;

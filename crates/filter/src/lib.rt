@@ -5,7 +5,7 @@
 
 ghost use Rattle.std.specs.Prelude.{◌≡◌};
 ghost use Rattle.table.specs.Heads.{settings};
-ghost use Rattle.book.specs.Heads.{booked_in};
+ghost use Rattle.book.specs.Heads.{booked};
 ghost use Rattle.filter.specs.Filter.{FiltersIn};
 ghost use Rattle.filter.specs.Inner.{lent_fits_ranged};
 
@@ -70,7 +70,7 @@ pub fn filter(
     values: &mut [i32],
     codes: &mut [u8],
 ) -> u8
-    ensures { let b = booked_in head keys sums index book in
+    ensures { let b = booked head keys.now sums.now index.now book.now in
         FiltersIn (settings head) b queries.now result first second values codes }
 {
     let more = lent_fits(

@@ -5,7 +5,7 @@ ghost use Rattle.whole.specs.Size.{Abs≤};
 ghost use Rattle.whole.specs.Lists.{collect};
 ghost use Rattle.lattice.specs.Limits.{most_W};
 ghost use Rattle.simplex.specs.Slots.{slot};
-ghost use Rattle.table.specs.Heads.{settings, table, table_in};
+ghost use Rattle.table.specs.Heads.{settings, table};
 ghost use Rattle.blur.specs.Inner.{most_blurred};
 ghost use Rattle.filter.specs.Inner.{WeighedIs, Weighable};
 
@@ -43,7 +43,7 @@ fn weigh_slot(
 ) -> Weighed
     requires weighable { Weighable (settings head) (table head keys.now sheet.now index.now) weights.now coords.now }
     requires k_bound { k < suc head.d }
-    ensures { let t = table_in head keys sheet index in
+    ensures { let t = table head keys.now sheet.now index.now in
         WeighedIs (settings head) t (slot head.d weights.now coords.now k) result.weight result.mass result.value }
 {
     let start = MOST_COORDS * k;
@@ -74,7 +74,7 @@ pub fn weigh(
     coords: &[i32],
 ) -> Weighed
     requires { Weighable (settings head) (table head keys.now sheet.now index.now) weights.now coords.now }
-    ensures { let t = table_in head keys sheet index in
+    ensures { let t = table head keys.now sheet.now index.now in
         WeighedIs (settings head) t (collect (suc head.d) (slot head.d weights.now coords.now)) result.weight result.mass result.value }
 {
     let n = head.d + 1;

@@ -3,7 +3,7 @@
 #![tactic(auto)]
 
 ghost use Rattle.table.specs.Heads.{settings};
-ghost use Rattle.book.specs.Heads.{booked_in};
+ghost use Rattle.book.specs.Heads.{booked};
 ghost use Rattle.listing.specs.Listing.{ListsIn};
 
 mod compare;
@@ -25,7 +25,7 @@ pub fn list(
     book: &[i32],
     list: &mut [u16],
 ) -> u8
-    ensures { let b = booked_in head keys sums index book in
+    ensures { let b = booked head keys.now sums.now index.now book.now in
         ListsIn (settings head) b result list }
 {
     let more = list.len() == head.capacity;

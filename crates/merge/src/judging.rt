@@ -6,7 +6,7 @@ ghost use Rattle.index.specs.Keys.{key_at};
 ghost use Rattle.table.specs.Heads.{settings};
 ghost use Rattle.table.specs.Pour.{news_in};
 ghost use Rattle.book.specs.Calls.{all_fit, merge_refusal};
-ghost use Rattle.book.specs.Heads.{booked_in};
+ghost use Rattle.book.specs.Heads.{booked};
 ghost use Rattle.merge.specs.Refusals.{each_refusal, both_refusal, numbers_new};
 ghost use Rattle.merge.specs.Source.{Comparable};
 
@@ -23,7 +23,7 @@ use table::Head;
 // Whether four slices are those of the head.
 fn slices_fit(head: Head, keys: &[i32], sums: &[i64], index: &[u16], book: &[i32]) -> bool
     requires { (head.d ≤ most_d) × (head.capacity ≤ most_C) × (head.room ≤ most_readings) }
-    ensures { result ≡ all_fit (settings head) (booked_in head keys sums index book) }
+    ensures { result ≡ all_fit (settings head) (booked head keys.now sums.now index.now book.now) }
 {
     lengths_fit(
         head.d,
@@ -49,8 +49,8 @@ fn each_refusal(
     source_index: &[u16],
     source_book: &[i32],
 ) -> u8
-    ensures { let b = booked_in head keys sums index book in
-        let s = booked_in source source_keys source_sums source_index source_book in
+    ensures { let b = booked head keys.now sums.now index.now book.now in
+        let s = booked source source_keys.now source_sums.now source_index.now source_book.now in
         result ≡ each_refusal (settings head) b (settings source) s }
 {
     if !in_range(head.d, head.fineness, head.capacity, head.room) {
@@ -123,8 +123,8 @@ pub fn merge_refusal(
     source_index: &[u16],
     source_book: &[i32],
 ) -> u8
-    ensures { let b = booked_in head keys sums index book in
-        let s = booked_in source source_keys source_sums source_index source_book in
+    ensures { let b = booked head keys.now sums.now index.now book.now in
+        let s = booked source source_keys.now source_sums.now source_index.now source_book.now in
         result ≡ merge_refusal (settings head) b (settings source) s }
 {
     let number = each_refusal(

@@ -5,7 +5,7 @@
 
 ghost use Rattle.table.specs.Heads.{settings};
 ghost use Rattle.book.specs.Calls.{merge_refusal, after_merge};
-ghost use Rattle.book.specs.Heads.{booked_in, AnswersBookIn};
+ghost use Rattle.book.specs.Heads.{booked_in, AnswersBookIn, booked};
 
 mod adding;
 mod judging;
@@ -32,7 +32,7 @@ pub fn merge(
     ensures { let c = settings head in
         let e = settings source in
         let b = booked_in head keys sums index book in
-        let s = booked_in source source_keys source_sums source_index source_book in
+        let s = booked source source_keys.now source_sums.now source_index.now source_book.now in
         AnswersBookIn head (merge_refusal c b e s) (after_merge c b e s) result.number result.head keys sums index book }
 {
     let number = merge_refusal(

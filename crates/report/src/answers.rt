@@ -1,6 +1,6 @@
 // The lines of a log's queries, in their order, answered over all of its readings.
 ghost use Rattle.std.specs.Prelude.{length};
-ghost use Rattle.table.specs.Heads.{settings, table, table_in};
+ghost use Rattle.table.specs.Heads.{settings, table};
 ghost use Rattle.reader.specs.Walk.{items};
 ghost use Rattle.text.specs.Text.{Written};
 ghost use Rattle.report.specs.Report.{answer_lines, per_query};
@@ -30,7 +30,7 @@ fn put_reply(
     item: Item,
 ) -> usize
     requires { ReplyRoom (settings head) (table head keys.now sheet.now index.now) log.now offset item at (length out.old) }
-    ensures { let t = table_in head keys sheet index in
+    ensures { let t = table head keys.now sheet.now index.now in
         Written out.old at (reply_text (settings head) t log.now offset item) result out.new }
 {
     let Item::Of(kind) = item else {
@@ -59,7 +59,7 @@ fn put_replies(
 ) -> usize
     requires { RepliesRoom (settings head) (table head keys.now sheet.now index.now) log.now at (length out.old) }
     ensures { let c = settings head in
-        let t = table_in head keys sheet index in
+        let t = table head keys.now sheet.now index.now in
         Written out.old at (per_query (reply_line c t) (items log.now)) result out.new }
 {
     let mut next = at;
@@ -88,7 +88,7 @@ pub fn put_answers(
     log: &[u8],
 ) -> usize
     requires { AnswersRoom (settings head) (table head keys.now sums.now index.now) log.now at (length out.old) }
-    ensures { let t = table_in head keys sums index in
+    ensures { let t = table head keys.now sums.now index.now in
         Written out.old at (answer_lines (settings head) t (items log.now)) result out.new }
 {
     let mut first = [0i64; 2 * MOST_LOG_CAPACITY];

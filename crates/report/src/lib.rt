@@ -4,7 +4,7 @@
 
 ghost use Rattle.std.specs.Prelude.{length};
 ghost use Rattle.table.specs.Calls.{lent};
-ghost use Rattle.table.specs.Heads.{settings, table, table_in};
+ghost use Rattle.table.specs.Heads.{settings, table};
 ghost use Rattle.book.specs.Heads.{lent_in};
 ghost use Rattle.text.specs.Text.{Written};
 ghost use Rattle.log.specs.Loading.{load};
@@ -46,7 +46,7 @@ fn put_table(
     log: &[u8],
 ) -> usize
     requires { TableRoom (settings head) (table head keys.now sums.now index.now) log.now (length out.old) }
-    ensures { let t = table_in head keys sums index in
+    ensures { let t = table head keys.now sums.now index.now in
         Written out.old 0 (table_text (settings head) t log.now) result out.new }
 {
     let after_head = put_head(out, head);

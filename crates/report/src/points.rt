@@ -1,6 +1,6 @@
 // The lines of a table's points, in listing order.
 ghost use Rattle.std.specs.Prelude.{length};
-ghost use Rattle.table.specs.Heads.{settings, table, table_in};
+ghost use Rattle.table.specs.Heads.{settings, table};
 ghost use Rattle.text.specs.Text.{Written};
 ghost use Rattle.report.specs.Report.{point_lines};
 ghost use Rattle.report.specs.Inner.{lines_in, RowsRoom, PointsRoom};
@@ -41,7 +41,7 @@ pub fn put_points(
     index: &[u16],
 ) -> usize
     requires { PointsRoom (settings head) (table head keys.now sums.now index.now) at (length out.old) }
-    ensures { let t = table_in head keys sums index in
+    ensures { let t = table head keys.now sums.now index.now in
         Written out.old at (point_lines (settings head) t) result out.new }
 {
     let mut order = [0u16; MOST_LOG_CAPACITY];

@@ -4,7 +4,7 @@
 
 ghost use Rattle.std.specs.Prelude.{◌≡◌};
 ghost use Rattle.table.specs.Sound.{sound, Ranged, Shape};
-ghost use Rattle.table.specs.Heads.{settings, table, table_in};
+ghost use Rattle.table.specs.Heads.{settings, table};
 
 mod places;
 mod points;
@@ -19,7 +19,7 @@ use lattice::limits::MOST_READINGS;
 pub fn is_sound(head: table::Head, keys: &[i32], sums: &[i64], index: &[u16]) -> bool
     requires ranged { Ranged (settings head) }
     requires shape { Shape (settings head) (table head keys.now sums.now index.now) }
-    ensures { let t = table_in head keys sums index in
+    ensures { let t = table head keys.now sums.now index.now in
         result ≡ sound (settings head) t }
 {
     let d = head.d;

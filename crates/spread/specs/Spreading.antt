@@ -9,7 +9,7 @@ use Rattle.table.specs.Table.{Settings, Table, Row, keys_of}
 use Rattle.table.specs.Pour.{set_pair, news_in}
 use Rattle.table.specs.Reading.{reading_of, Lawful}
 use Rattle.table.specs.Sound.{Ranged, Fine}
-use Rattle.table.specs.Heads.{Slice}
+use Rattle.table.specs.Heads.{Read, Slice}
 use Rattle.pour.specs.Inner.{most_share, most_rows}
 use Rattle.book.specs.Book.{entry_of}
 
@@ -32,8 +32,8 @@ pub record Lifts (c : Settings) (keys : List ℤ) (index : List ℕ) (sheet : Li
   pub missing_are : missing ≡ news_in c keys index (keys_of rs)
   pub left_is : left ≡ lift_all c keys index sheet rs
 
--- `Lifts` of three slices that are lent, and of what is left in the third, the sheet
-abbrev pub LiftsIn : Settings → Slice ℤ → Slice ℕ → Slice ℤ → List Row → ℕ → Type 0
+-- `Lifts` of three slices that are lent, two of them to be read, and of what is left in the third, the sheet
+abbrev pub LiftsIn : Settings → Read ℤ → Read ℕ → Slice ℤ → List Row → ℕ → Type 0
 LiftsIn c keys index sheet rs missing = Lifts c keys.entry.now index.entry.now sheet.entry.now rs missing sheet.exit.now
 
 -- numbers as small as so many rows make them where they were 0

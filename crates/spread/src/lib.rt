@@ -7,7 +7,7 @@ ghost use Rattle.whole.specs.Sum.{all};
 ghost use Rattle.whole.specs.Lists.{at};
 ghost use Rattle.index.specs.Keys.{eq_z};
 ghost use Rattle.table.specs.Reading.{reading_of, shares};
-ghost use Rattle.table.specs.Heads.{settings, table, table_in};
+ghost use Rattle.table.specs.Heads.{settings, table};
 ghost use Rattle.book.specs.Book.{entry_of, sums_theirs};
 ghost use Rattle.spread.specs.Spreading.{LiftsIn, ToSpread, Comparable};
 ghost use Rattle.spread.specs.Inner.{shares_to, BookToSpread};
@@ -83,7 +83,7 @@ fn on_sheet(
 ) -> bool
     requires comparable { Comparable (settings head) (table head keys.now sums.now index.now) book.now }
     requires sheet_value { sheet.old ≡ replicate (2 * head.capacity) (pos 0) }
-    ensures { result ≡ sums_theirs (settings head) (table_in head keys sums index) (λ j. (entry_of head.d book.now j).reading) }
+    ensures { result ≡ sums_theirs (settings head) (table head keys.now sums.now index.now) (λ j. (entry_of head.d book.now j).reading) }
 {
     if spread_book(head, keys, index, sheet, book) != 0 {
         return false;
@@ -95,7 +95,7 @@ fn on_sheet(
 // as many points as a table has at most.
 pub fn sums_are_theirs(head: Head, keys: &[i32], sums: &[i64], index: &[u16], book: &[i32]) -> bool
     requires { Comparable (settings head) (table head keys.now sums.now index.now) book.now }
-    ensures { result ≡ sums_theirs (settings head) (table_in head keys sums index) (λ j. (entry_of head.d book.now j).reading) }
+    ensures { result ≡ sums_theirs (settings head) (table head keys.now sums.now index.now) (λ j. (entry_of head.d book.now j).reading) }
 {
     let mut sheet = [0i64; 2 * MOST_CAPACITY];
     let places = 2 * head.capacity;

@@ -1,6 +1,6 @@
 -- The head and the lent slices as the definitions have them, and what a call hands back and leaves.
 use Rattle.std.specs.Prelude.{◌≡◌, List, ℕ, ℤ}
-use Rattle.std.specs.Borrow.{Bor}
+use Rattle.std.specs.Borrow.{Bor, MutBor}
 use denote.Triple.Both.{Both}
 use Rattle.table.specs.declared.Head.{Head}
 use Rattle.table.specs.Table.{Settings, Table}
@@ -40,9 +40,13 @@ pub record Answers (given : Head) (x : ℕ) (t : Table) (number : ℕ) (head : H
   pub sums_are : sums ≡ t.sums
   pub index_are : index ≡ t.index
 
--- a slice that is lent to a call, as it is before the call and after it
+-- a slice that is lent to a call to be read
+abbrev pub Read : Type 0 → Type 0
+Read A = Both (Bor (List A)) (Bor (List A))
+
+-- a slice that is lent to a call to be changed, as it is before the call and after it
 abbrev pub Slice : Type 0 → Type 0
-Slice A = Both (Bor (List A)) (Bor (List A))
+Slice A = Both (MutBor (List A)) (MutBor (List A))
 
 -- the table that a call finds in three slices, of a head where so many points are stored
 abbrev pub table_with_in : Head → ℕ → Slice ℤ → Slice ℤ → Slice ℕ → Table

@@ -1,7 +1,7 @@
 // A reading's weights subtracted from the sums of the table.
 ghost use Rattle.std.specs.Prelude.{◌≡◌, ◌≤◌, length};
 ghost use Rattle.table.specs.Reading.{reading_of, shares};
-ghost use Rattle.table.specs.Heads.{settings, table, table_in};
+ghost use Rattle.table.specs.Heads.{settings, table};
 ghost use Rattle.book.specs.Withdraw.{lowered};
 ghost use Rattle.withdraw.specs.Inner.{BoundedTo, TakenOff, Lowerable};
 
@@ -25,7 +25,7 @@ fn take_off(sums: &mut [i64], sheet: &[i64], n: usize)
 // it was when it was entered, and subtracted.
 pub fn lower(head: Head, keys: &[i32], sums: &mut [i64], index: &[u16], reading: &[i32])
     requires { Lowerable (settings head) (table head keys.now sums.old index.now) reading.now }
-    ensures { let t = table_in head keys sums index in
+    ensures { let t = table head keys.now sums.old index.now in
         sums.new ≡ (lowered (settings head) t (shares head.d head.fineness (reading_of head.d reading.now))).sums }
 {
     let mut sheet = [0i64; 2 * MOST_CAPACITY];

@@ -1,7 +1,7 @@
 // A reading taken back from table and book.
 ghost use Rattle.std.specs.Prelude.{◌≡◌, ◌<◌};
 ghost use Rattle.table.specs.Reading.{reading_of, shares};
-ghost use Rattle.table.specs.Heads.{settings, table, table_with, table_in};
+ghost use Rattle.table.specs.Heads.{settings, table, table_with};
 ghost use Rattle.book.specs.Withdraw.{lowered, leave, without};
 ghost use Rattle.book.specs.Theorems.{FineBook};
 ghost use Rattle.book.specs.Heads.{booked, booked_in, HoldsBook};
@@ -19,7 +19,7 @@ use table::Head;
 fn unpour(head: Head, keys: &mut [i32], sums: &mut [i64], index: &[u16], reading: &[i32]) -> usize
     requires { Lowerable (settings head) (table head keys.old sums.old index.now) reading.now }
     ensures { let c = settings head in
-        let t = table_in head keys sums index in
+        let t = table head keys.old sums.old index.now in
         let rs = shares head.d head.fineness (reading_of head.d reading.now) in
         table_with head result keys.new sums.new index.now ≡ leave c (lowered c t rs) rs }
 {
