@@ -1,0 +1,23 @@
+-- The readings are spread, and the sheet compared where no point is missing.
+use native.Mathlib.Omega.{arith}
+use mathlib.Core.Path.{◌≡◌}
+use Rattle.table.specs.Table.{Table}
+use Rattle.table.specs.Heads.{settings, table}
+use Rattle.spread.proofs.Comparing.{can_spread, some_missing, compared}
+use Rattle.spread.proofs.on_sheet.Goals as goal
+use Rattle.spread.proofs.on_sheet.Goals.{Start}
+
+abbrev of : Start → Table
+of s = table s.args.head s.args.keys.now s.args.sums.now s.args.index.now
+
+pub spread_book-requires : goal.spread_book-requires
+spread_book-requires c = can_spread (settings c.args.head) (of (goal.at.spread_book-requires c).Start) c.args.book.now c.requires.comparable c.requires.sheet_value
+
+pub returns-then-spread_book-ne0 : goal.returns-then-spread_book-ne0
+returns-then-spread_book-ne0 c =
+    some_missing (settings c.args.head) (of (goal.at.returns-then-spread_book-ne0 c).Start) c.args.book.now c.requires.comparable c.requires.sheet_value c.spread_book.ensures c.if-spread_book-ne0.true
+
+pub returns : goal.returns
+returns c =
+    let none : c.spread_book.result ≡ 0 = let z = c.if-spread_book-ne0.false in omega arith in
+    compared (settings c.args.head) (of (goal.at.returns c).Start) c.args.book.now c.requires.comparable c.requires.sheet_value c.spread_book.ensures none c.same_numbers.ensures
