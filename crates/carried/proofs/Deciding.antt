@@ -15,7 +15,6 @@ use Rattle.lattice.specs.Refusals.{first, settings_out_of_range, other_length, n
 use Rattle.table.specs.Table.{Settings, Table}
 use Rattle.table.specs.Reading.{own_refusal}
 use Rattle.table.specs.Sound.{sound, Ranged, Shape}
-use Rattle.table.specs.Calls.{ranged}
 use Rattle.table.proofs.Refusals.{T_of}
 use Rattle.table.proofs.Limits.{to_lawful}
 use Rattle.table.proofs.Soundness.{to_sound}
