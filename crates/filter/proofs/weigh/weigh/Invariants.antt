@@ -1,0 +1,12 @@
+use mathlib.Core.Path.{◌≡◌}
+use Prim.Native.Nat.{◌+◌, ◌≤◌}
+use Rattle.whole.specs.Lists.{collect}
+use Rattle.simplex.specs.Slots.{slot}
+use Rattle.table.specs.Heads.{settings, table}
+use Rattle.filter.specs.Inner.{WeighedIs}
+use Rattle.filter.proofs.weigh.weigh.Given as goal
+
+abbrev pub invariant-loop-k : goal.invariant-loop-k
+invariant-loop-k l =
+    (l.k ≤ l.n) × (l.n ≡ l.head.d + 1)
+    × WeighedIs (settings l.head) (table l.head l.keys l.sheet l.index) (collect l.k (slot l.head.d l.weights l.coords)) l.weight l.mass l.value
