@@ -42,7 +42,7 @@ stretch_size d keys i L = ap length (stretch_is d keys i L) ∙ key_at_length d 
 
 -- a number that was read from a slice of 64-bit numbers is itself
 pub read_back : {z : ℤ} → mag z < 2 ^ 63 → to_z w64 (of_z w64 z) ≡ z
-read_back h = to_z-of_z (record { sfits = h })
+read_back h = to_z-of_z {w = w64} (record { sfits = h })
 
 -- row i as a function lends it on: from its stretch, and with m and v for its pair
 module _ (c : Settings) (t : Table) (keys sums : List ℤ) (i : ℕ) (m v : ℤ) (L : Stretch c.d keys i) (p : m ≡ at sums (2 * i)) (q : v ≡ at sums (2 * i + 1)) where

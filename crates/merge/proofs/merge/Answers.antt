@@ -1,0 +1,45 @@
+-- A number that is not 0 leaves all as it was; else the source is added, and the readings are added up.
+use native.Mathlib.Omega.{arith}
+use mathlib.Core.Path.{◌≡◌, sym, ◌∙◌}
+use Rattle.table.specs.Table.{Settings}
+use Rattle.table.specs.Heads.{settings}
+use Rattle.book.specs.Book.{Booked}
+use Rattle.book.specs.Calls.{merge_refusal}
+use Rattle.book.specs.Heads.{booked}
+use Rattle.merge.proofs.Merging.{pouring, putting, refused, done}
+use Rattle.merge.proofs.merge.Goals as goal
+use Rattle.merge.proofs.merge.Goals.{Else-number-ne0, Start}
+
+abbrev of : Start → Settings
+of s = settings s.args.head
+
+abbrev the : Start → Booked
+the s = booked s.args.head s.args.keys.now s.args.sums.now s.args.index.now s.args.book.now
+
+abbrev from : Start → Settings
+from s = settings s.args.source
+
+abbrev other : Start → Booked
+other s = booked s.args.source s.args.source_keys.now s.args.source_sums.now s.args.source_index.now s.args.source_book.now
+
+-- no refusal is met
+none : (c : Else-number-ne0) → 0 ≡ merge_refusal (of c.before.before.before.before.before) (the c.before.before.before.before.before) (from c.before.before.before.before.before) (other c.before.before.before.before.before)
+none c = sym c.if-number-ne0.false ∙ c.merge_refusal-number.ensures
+
+pub returns-then-number-ne0 : goal.returns-then-number-ne0
+returns-then-number-ne0 c =
+    let a = c.args in
+    refused a.head a.keys.now a.sums.now a.index.now a.book.now (from (goal.at.returns-then-number-ne0 c).Start) (other (goal.at.returns-then-number-ne0 c).Start) _ c.merge_refusal-number.ensures c.if-number-ne0.true
+
+pub add_source-points-requires : goal.add_source-points-requires
+add_source-points-requires c =
+    record { fact = pouring (of (goal.at.add_source-points-requires c).Start) (the (goal.at.add_source-points-requires c).Start) (from (goal.at.add_source-points-requires c).Start) (other (goal.at.add_source-points-requires c).Start) (sym (none (goal.at.add_source-points-requires c).Else-number-ne0)); entries_to_put = putting (of (goal.at.add_source-points-requires c).Start) (the (goal.at.add_source-points-requires c).Start) (from (goal.at.add_source-points-requires c).Start) (other (goal.at.add_source-points-requires c).Start) (sym (none (goal.at.add_source-points-requires c).Else-number-ne0)) }
+
+pub overflow_add-head : goal.overflow_add-head
+overflow_add-head c =
+    record { fits = omega (arith, (putting (of (goal.at.overflow_add-head c).Start) (the (goal.at.overflow_add-head c).Start) (from (goal.at.overflow_add-head c).Start) (other (goal.at.overflow_add-head c).Start) (sym (none (goal.at.overflow_add-head c).Else-number-ne0))).few) }
+
+pub returns : goal.returns
+returns c =
+    let a = c.args in
+    done a.head a.keys.now a.sums.now a.index.now a.book.now (from (goal.at.returns c).Start) (other (goal.at.returns c).Start) _ _ _ _ _ _ (none (goal.at.returns c).Else-number-ne0) c.add_source-points.ensures c.with_counts.ensures
