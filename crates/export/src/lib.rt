@@ -11,7 +11,7 @@ ghost use Rattle.book.specs.Calls.{fresh_refusal, after_fresh, enter, merge_refu
 ghost use Rattle.book.specs.Heads.{booked_in, lent_in, AnswersBookIn, EntersBookIn, booked};
 ghost use Rattle.listing.specs.Listing.{ListsIn};
 ghost use Rattle.filter.specs.Filter.{FiltersIn};
-ghost use Rattle.log.specs.Loading.{LoadsIn, load};
+ghost use Rattle.load.specs.Loading.{LoadsIn, load};
 ghost use Rattle.report.specs.Report.{Reports};
 ghost use Rattle.export.specs.Numbers.{head_from};
 
@@ -283,7 +283,7 @@ pub extern "C" fn vimrothi_load(
         let after = head_from d.new fineness.new capacity.new room.new readings.new points.new in
         LoadsIn (head_of o.settings o.booked.room) o result offset.new after keys sums index book }
 {
-    let loaded = log::load(log, book_room, keys, sums, index, book);
+    let loaded = load::load(log, book_room, keys, sums, index, book);
     *d = loaded.head.d;
     *fineness = loaded.head.fineness;
     *capacity = loaded.head.capacity;
