@@ -28,8 +28,8 @@ use simplex::{Simplex, enclose};
 use std::io;
 
 // The point in slot k, if there is one: its n coordinates and its weight.
-fn print_slot(rt: &impl Print, s: &Simplex, n: usize, k: usize) -> io::Result<()>
-    requires coords_len { length s.now.coords ≡ 36 }
+fn print_slot(rt: &impl Print, s: Simplex, n: usize, k: usize) -> io::Result<()>
+    requires coords_len { length s.coords ≡ 36 }
     requires n_bound { n ≤ 6 }
     requires k_bound { k < 6 }
 {
@@ -45,8 +45,8 @@ fn print_slot(rt: &impl Print, s: &Simplex, n: usize, k: usize) -> io::Result<()
     println!(rt; " {weight}")
 }
 
-fn print_points(rt: &impl Print, s: &Simplex, n: usize) -> io::Result<()>
-    requires coords_len { length s.now.coords ≡ 36 }
+fn print_points(rt: &impl Print, s: Simplex, n: usize) -> io::Result<()>
+    requires coords_len { length s.coords ≡ 36 }
     requires n_bound { n ≤ 6 }
 {
     for k in 0..n {
@@ -78,7 +78,7 @@ fn show(rt: &impl Print, x: &[i32], fineness: u32) -> io::Result<()> {
         return println!(rt; "REFUSED {number}");
     }
     let s = enclose(x, n - 1, fineness);
-    print_points(rt, &s, n)
+    print_points(rt, s, n)
 }
 
 fn show_rounded(rt: &impl Print, num: i32, den: i32) -> io::Result<()> {

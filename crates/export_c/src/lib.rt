@@ -7,7 +7,7 @@
 ghost use Rattle.table.specs.Table.{Settings};
 ghost use Rattle.table.specs.Heads.{head_of, settings};
 ghost use Rattle.book.specs.Calls.{fresh_refusal, after_fresh, enter, merge_refusal, after_merge, withdraw_refusal, after_withdraw};
-ghost use Rattle.book.specs.Heads.{booked_in, lent_in, AnswersBookIn, EntersBookIn};
+ghost use Rattle.book.specs.Heads.{booked_in, lent_in, AnswersBookIn, EntersBookIn, booked};
 ghost use Rattle.listing.specs.Listing.{ListsIn};
 ghost use Rattle.filter.specs.Filter.{FiltersIn};
 ghost use Rattle.load.specs.Loading.{LoadsIn, load};
@@ -94,7 +94,7 @@ pub extern "C" fn vimrothi_merge(
         let c = settings head in
         let e = settings source in
         let b = booked_in head keys sums index book in
-        let s = booked_in source source_keys source_sums source_index source_book in
+        let s = booked source source_keys.now source_sums.now source_index.now source_book.now in
         let after = head_from d.new fineness.new capacity.new room.new readings.new points.new in
         AnswersBookIn head (merge_refusal c b e s) (after_merge c b e s) result after keys sums index book }
 {
@@ -164,7 +164,7 @@ pub extern "C" fn vimrothi_list(
     list: &mut [u16],
 ) -> u8
     ensures { let head = head_from d fineness capacity room readings points in
-        ListsIn (settings head) (booked_in head keys sums index book) result list }
+        ListsIn (settings head) (booked head keys.now sums.now index.now book.now) result list }
 {
     export::vimrothi_list(
         d, fineness, capacity, room, readings, points, keys, sums, index, book, list,
@@ -191,7 +191,7 @@ pub extern "C" fn vimrothi_filter(
     codes: &mut [u8],
 ) -> u8
     ensures { let head = head_from d fineness capacity room readings points in
-        let b = booked_in head keys sums index book in
+        let b = booked head keys.now sums.now index.now book.now in
         FiltersIn (settings head) b queries.now result first second values codes }
 {
     export::vimrothi_filter(
