@@ -4,9 +4,10 @@
 .PHONY: demo test bench
 
 demo:
-	rt check
+	rt all check
+	.ci/program
 	@echo
-	@.ci/started target/bin/dyemap < crates/dyemap/stdin
+	@target/bin/dyemap < crates/dyemap/stdin
 
 test:
 	.ci/run

@@ -1,4 +1,4 @@
-//! Links the static library that `rt staticlib export` writes from the proved crates.
+//! Links the static library that `.ci/library` writes from the proved crates.
 
 use std::path::Path;
 
@@ -7,14 +7,14 @@ fn main() {
     let library = folder.join("libexport.a");
     let Ok(archive) = std::fs::read(&library) else {
         refuse(&format!(
-            "{} is not there: run `rt staticlib export` first, or on Arm `.ci/library`",
+            "{} is not there: run `.ci/library` first",
             library.display()
         ));
     };
     let target = std::env::var("CARGO_CFG_TARGET_ARCH").unwrap_or_default();
     if processor_of(&archive) != Some(target.as_str()) {
         refuse(&format!(
-            "{} is not compiled for {target}: `rt staticlib export` compiles for x86-64 Linux, `.ci/library` for the machine that it runs on",
+            "{} is not compiled for {target}: `.ci/library` compiles for x86-64 Linux",
             library.display()
         ));
     }

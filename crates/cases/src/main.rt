@@ -20,133 +20,118 @@ mod withdrawn;
 
 use crate::filtered::show_filtered;
 use crate::logs::show_logs;
-use crate::print::{print_number, print_numbers};
+use crate::print::print_numbers;
 use crate::tables::{show_entered, show_merged};
 use crate::withdrawn::show_withdrawn;
 use lattice::position::judge;
-use libc::STDOUT_FILENO;
 use simplex::{Simplex, enclose};
+use std::io;
 
 // The point in slot k, if there is one: its n coordinates and its weight.
-fn print_slot(s: Simplex, n: usize, k: usize)
+fn print_slot(rt: &impl Print, s: Simplex, n: usize, k: usize) -> io::Result<()>
     requires coords_len { length s.coords ≡ 36 }
     requires n_bound { n ≤ 6 }
     requires k_bound { k < 6 }
 {
     let weight = s.weights[k];
     if weight == 0 {
-        return;
+        return Ok(());
     }
     let coords = s.coords;
     let a = 6 * k;
     let b = a + n;
-    io::write_all(STDOUT_FILENO, b"POINT");
-    print_numbers(&coords[a..b]);
-    io::write_all(STDOUT_FILENO, b" ");
-    io::print_decimal(STDOUT_FILENO, weight as u64);
-    io::write_all(STDOUT_FILENO, b"\n");
+    print!(rt; "POINT")?;
+    print_numbers(rt, &coords[a..b])?;
+    println!(rt; " {weight}")
 }
 
-fn print_points(s: Simplex, n: usize)
+fn print_points(rt: &impl Print, s: Simplex, n: usize) -> io::Result<()>
     requires coords_len { length s.coords ≡ 36 }
     requires n_bound { n ≤ 6 }
 {
     for k in 0..n {
-        print_slot(s, n, k);
+        print_slot(rt, s, n, k)?;
     }
+    Ok(())
 }
 
 // A position of two to six coordinates: the points around it, or its refusal.
-fn show(x: &[i32], fineness: u32) {
+fn show(rt: &impl Print, x: &[i32], fineness: u32) -> io::Result<()> {
     let n = x.len();
     if n < 2 {
-        return;
+        return Ok(());
     }
     if 6 < n {
-        return;
+        return Ok(());
     }
     if fineness < 1 {
-        return;
+        return Ok(());
     }
     if 64 < fineness {
-        return;
+        return Ok(());
     }
-    io::write_all(STDOUT_FILENO, b"FINENESS ");
-    io::print_decimal(STDOUT_FILENO, fineness as u64);
-    io::write_all(STDOUT_FILENO, b" POSITION");
-    print_numbers(x);
-    io::write_all(STDOUT_FILENO, b"\n");
+    print!(rt; "FINENESS {fineness} POSITION")?;
+    print_numbers(rt, x)?;
+    println!(rt; "")?;
     let number = judge(x);
     if number != 0 {
-        io::write_all(STDOUT_FILENO, b"REFUSED ");
-        io::print_decimal(STDOUT_FILENO, number as u64);
-        io::write_all(STDOUT_FILENO, b"\n");
-        return;
+        return println!(rt; "REFUSED {number}");
     }
     let s = enclose(x, n - 1, fineness);
-    print_points(s, n);
+    print_points(rt, s, n)
 }
 
-fn show_rounded(num: i32, den: i32) {
+fn show_rounded(rt: &impl Print, num: i32, den: i32) -> io::Result<()> {
     if den < 1 {
-        return;
+        return Ok(());
     }
     let r = whole::round::round_fraction(num as i64, den as i64);
-    io::write_all(STDOUT_FILENO, b"ROUNDED");
-    print_number(num);
-    print_number(den);
-    print_number(r as i32);
-    io::write_all(STDOUT_FILENO, b"\n");
+    println!(rt; "ROUNDED {num} {den} {r}")
 }
 
-fn show_remainder(x: i32, m: u32) {
+fn show_remainder(rt: &impl Print, x: i32, m: u32) -> io::Result<()> {
     if m < 1 {
-        return;
+        return Ok(());
     }
     if 1000 < m {
-        return;
+        return Ok(());
     }
     let r = whole::division::remainder_of(x, m);
-    io::write_all(STDOUT_FILENO, b"REMAINDER");
-    print_number(x);
-    io::write_all(STDOUT_FILENO, b" ");
-    io::print_decimal(STDOUT_FILENO, m as u64);
-    io::write_all(STDOUT_FILENO, b" ");
-    io::print_decimal(STDOUT_FILENO, r as u64);
-    io::write_all(STDOUT_FILENO, b"\n");
+    println!(rt; "REMAINDER {x} {m} {r}")
 }
 
-fn main() {
-    show(&[3, -1, -2], 2);
-    show(&[1, 0, -1], 1);
-    show(&[1, 1, -2], 2);
-    show(&[2, 2, -4], 2);
-    show(&[1000000, -1000000], 1);
-    show(&[1000001, 0], 1);
-    show(&[5, -4], 1);
-    show_rounded(3, 2);
-    show_rounded(-3, 2);
-    show_rounded(-1, 2);
-    show_rounded(1, 3);
-    show_rounded(-2, 3);
-    show_remainder(-4, 3);
-    show_remainder(-1, 3);
-    show_entered(&[7, 3, -3, 10, -3, 2, -2, 4], 2);
-    show_entered(&[7, 3, -3, 10, 7, 2, -2, 4], 2);
-    show_merged(&[-3, 2, -2, 4], &[7, 3, -3, 10], 2);
-    show_merged(&[7, 2, -2, 4], &[7, 3, -3, 10], 2);
-    show_withdrawn(7);
-    show_withdrawn(-3);
-    show_withdrawn(0);
-    show_entered(&[0, 1000000, -1000000, 0], 1);
-    show_entered(&[0, 1000001, 0, 0], 1);
-    show_entered(&[0, 5, -4, 0], 1);
+fn main(rt: HostRuntime) -> io::Result<()> {
+    show(&rt, &[3, -1, -2], 2)?;
+    show(&rt, &[1, 0, -1], 1)?;
+    show(&rt, &[1, 1, -2], 2)?;
+    show(&rt, &[2, 2, -4], 2)?;
+    show(&rt, &[1000000, -1000000], 1)?;
+    show(&rt, &[1000001, 0], 1)?;
+    show(&rt, &[5, -4], 1)?;
+    show_rounded(&rt, 3, 2)?;
+    show_rounded(&rt, -3, 2)?;
+    show_rounded(&rt, -1, 2)?;
+    show_rounded(&rt, 1, 3)?;
+    show_rounded(&rt, -2, 3)?;
+    show_remainder(&rt, -4, 3)?;
+    show_remainder(&rt, -1, 3)?;
+    show_entered(&rt, &[7, 3, -3, 10, -3, 2, -2, 4], 2)?;
+    show_entered(&rt, &[7, 3, -3, 10, 7, 2, -2, 4], 2)?;
+    show_merged(&rt, &[-3, 2, -2, 4], &[7, 3, -3, 10], 2)?;
+    show_merged(&rt, &[7, 2, -2, 4], &[7, 3, -3, 10], 2)?;
+    show_withdrawn(&rt, 7)?;
+    show_withdrawn(&rt, -3)?;
+    show_withdrawn(&rt, 0)?;
+    show_entered(&rt, &[0, 1000000, -1000000, 0], 1)?;
+    show_entered(&rt, &[0, 1000001, 0, 0], 1)?;
+    show_entered(&rt, &[0, 5, -4, 0], 1)?;
     show_filtered(
+        &rt,
         &[7, 3, -3, 10, -3, 2, -2, 4],
         &[3, -3, 4, -4, 100, -100, 1000001, 0, 5, -4],
         2,
-    );
-    show_filtered(&[], &[3, -3, 4, -4, 100, -100, 1000001, 0, 5, -4], 2);
-    show_filtered(&[7, 3, -3, 10], &[3, -3], 2);
-    show_logs();
+    )?;
+    show_filtered(&rt, &[], &[3, -3, 4, -4, 100, -100, 1000001, 0, 5, -4], 2)?;
+    show_filtered(&rt, &[7, 3, -3, 10], &[3, -3], 2)?;
+    show_logs(&rt)
 }

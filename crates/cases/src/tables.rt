@@ -3,122 +3,130 @@
 use crate::print::{print_number, print_numbers};
 use book::fresh::fresh;
 use enter::enter;
-use libc::STDOUT_FILENO;
 use listing::list;
 use merge::merge;
+use std::io;
 use table::Head;
 
 // A coordinate, a mass or a value sum; those of the cases are far within 32 bits.
-pub fn print_small(x: i64) {
+pub fn print_small(rt: &impl Print, x: i64) -> io::Result<()> {
     if x < -1000000000 {
-        return;
+        return Ok(());
     }
     if 1000000000 < x {
-        return;
+        return Ok(());
     }
-    print_number(x as i32);
+    print_number(rt, x as i32)
 }
 
-pub fn print_count(n: usize) {
-    io::write_all(STDOUT_FILENO, b" ");
-    io::print_decimal(STDOUT_FILENO, n as u64);
+pub fn print_count(rt: &impl Print, n: usize) -> io::Result<()> {
+    print!(rt; " {n}")
 }
 
 // Point i: both coordinates, mass, value sum.
-fn print_point(keys: &[i32], sums: &[i64], i: usize) {
+fn print_point(rt: &impl Print, keys: &[i32], sums: &[i64], i: usize) -> io::Result<()> {
     if keys.len() <= i {
-        return;
+        return Ok(());
     }
     if sums.len() / 2 <= i {
-        return;
+        return Ok(());
     }
     let key = keys[i];
     let last = -(key as i64);
     let mass = sums[2 * i];
     let value = sums[2 * i + 1];
-    io::write_all(STDOUT_FILENO, b"POINT");
-    print_number(key);
-    print_small(last);
-    print_small(mass);
-    print_small(value);
-    io::write_all(STDOUT_FILENO, b"\n");
+    print!(rt; "POINT {key}")?;
+    print_small(rt, last)?;
+    print_small(rt, mass)?;
+    print_small(rt, value)?;
+    println!(rt; "")
 }
 
-fn print_points(keys: &[i32], sums: &[i64], order: &[u16], points: usize) {
+fn print_points(
+    rt: &impl Print,
+    keys: &[i32],
+    sums: &[i64],
+    order: &[u16],
+    points: usize,
+) -> io::Result<()> {
     if order.len() < points {
-        return;
+        return Ok(());
     }
     for k in 0..points {
         let i = order[k];
-        print_point(keys, sums, i as usize);
+        print_point(rt, keys, sums, i as usize)?;
     }
+    Ok(())
 }
 
 // HEAD: d, S, readings, points; then the points in listing order.
 pub fn print_table(
+    rt: &impl Print,
     head: Head,
     keys: &[i32],
     sums: &[i64],
     index: &[u16],
     book: &[i32],
     order: &mut [u16],
-) {
+) -> io::Result<()> {
     let number = list(head, keys, sums, index, book, order);
     if number != 0 {
-        return;
+        return Ok(());
     }
-    io::write_all(STDOUT_FILENO, b"HEAD");
-    print_count(head.d);
-    print_count(head.fineness as usize);
-    print_count(head.readings);
-    print_count(head.points);
-    io::write_all(STDOUT_FILENO, b"\n");
-    print_points(keys, sums, order, head.points);
+    print!(rt; "HEAD")?;
+    print_count(rt, head.d)?;
+    print_count(rt, head.fineness as usize)?;
+    print_count(rt, head.readings)?;
+    print_count(rt, head.points)?;
+    println!(rt; "")?;
+    print_points(rt, keys, sums, order, head.points)
 }
 
 // All of a book, also past its last entry.
-pub fn print_book(book: &[i32]) {
-    io::write_all(STDOUT_FILENO, b"BOOK");
-    print_numbers(book);
-    io::write_all(STDOUT_FILENO, b"\n");
+pub fn print_book(rt: &impl Print, book: &[i32]) -> io::Result<()> {
+    print!(rt; "BOOK")?;
+    print_numbers(rt, book)?;
+    println!(rt; "")
 }
 
 // A list of readings entered into a fresh table with room for as many points as there are keys: how
 // many were taken, and the number. The book has entries of 4 numbers.
 pub fn enter_fresh(
+    rt: &impl Print,
     fineness: u32,
     keys: &mut [i32],
     sums: &mut [i64],
     index: &mut [u16],
     book: &mut [i32],
     readings: &[i32],
-) -> Head {
+) -> io::Result<Head> {
     let capacity = keys.len();
     let room = book.len() / 4;
     let made = fresh(1, fineness, capacity, room, keys, sums, index, book);
     let entered = enter(made.head, keys, sums, index, book, readings);
-    io::write_all(STDOUT_FILENO, b"TAKEN");
-    print_count(entered.taken);
-    print_count(entered.number as usize);
-    io::write_all(STDOUT_FILENO, b"\n");
-    entered.head
+    print!(rt; "TAKEN")?;
+    print_count(rt, entered.taken)?;
+    print_count(rt, entered.number as usize)?;
+    println!(rt; "")?;
+    Ok(entered.head)
 }
 
 // The same, and the table.
-pub fn show_entered(readings: &[i32], fineness: u32) {
+pub fn show_entered(rt: &impl Print, readings: &[i32], fineness: u32) -> io::Result<()> {
     let mut keys = [0i32; 8];
     let mut sums = [0i64; 16];
     let mut index = [0u16; 16];
     let mut book = [0i32; 8];
     let mut order = [0u16; 8];
     let head = enter_fresh(
-        fineness, &mut keys, &mut sums, &mut index, &mut book, readings,
-    );
-    print_table(head, &keys, &sums, &index, &book, &mut order);
+        rt, fineness, &mut keys, &mut sums, &mut index, &mut book, readings,
+    )?;
+    print_table(rt, head, &keys, &sums, &index, &book, &mut order)
 }
 
 // A source of readings merged into a table, of another capacity: the number, and the table.
 fn show_source_merged(
+    rt: &impl Print,
     head: Head,
     keys: &mut [i32],
     sums: &mut [i64],
@@ -126,19 +134,20 @@ fn show_source_merged(
     book: &mut [i32],
     order: &mut [u16],
     readings: &[i32],
-) {
+) -> io::Result<()> {
     let mut source_keys = [0i32; 5];
     let mut source_sums = [0i64; 10];
     let mut source_index = [0u16; 10];
     let mut source_book = [0i32; 4];
     let source = enter_fresh(
+        rt,
         head.fineness,
         &mut source_keys,
         &mut source_sums,
         &mut source_index,
         &mut source_book,
         readings,
-    );
+    )?;
     let merged = merge(
         head,
         keys,
@@ -151,24 +160,29 @@ fn show_source_merged(
         &source_index,
         &source_book,
     );
-    io::write_all(STDOUT_FILENO, b"MERGED");
-    print_count(merged.number as usize);
-    io::write_all(STDOUT_FILENO, b"\n");
-    print_table(merged.head, keys, sums, index, book, order);
-    print_book(book);
+    print!(rt; "MERGED")?;
+    print_count(rt, merged.number as usize)?;
+    println!(rt; "")?;
+    print_table(rt, merged.head, keys, sums, index, book, order)?;
+    print_book(rt, book)
 }
 
 // Two lists, each in a table of its own, and the second table merged into the first.
-pub fn show_merged(readings: &[i32], others: &[i32], fineness: u32) {
+pub fn show_merged(
+    rt: &impl Print,
+    readings: &[i32],
+    others: &[i32],
+    fineness: u32,
+) -> io::Result<()> {
     let mut keys = [0i32; 3];
     let mut sums = [0i64; 6];
     let mut index = [0u16; 6];
     let mut book = [0i32; 12];
     let mut order = [0u16; 3];
     let head = enter_fresh(
-        fineness, &mut keys, &mut sums, &mut index, &mut book, readings,
-    );
+        rt, fineness, &mut keys, &mut sums, &mut index, &mut book, readings,
+    )?;
     show_source_merged(
-        head, &mut keys, &mut sums, &mut index, &mut book, &mut order, others,
-    );
+        rt, head, &mut keys, &mut sums, &mut index, &mut book, &mut order, others,
+    )
 }

@@ -1,12 +1,13 @@
 // A reading of document 01's log taken back. Its table is entered as above, with the numbers 7 and -3,
 // and its book has room for a third, in which something else stands.
 use crate::tables::{enter_fresh, print_book, print_count, print_table};
-use libc::STDOUT_FILENO;
+use std::io;
 use table::Head;
 use withdraw::withdraw;
 
 // The number that the call answers, the table that is left, and the book.
 fn show_left(
+    rt: &impl Print,
     head: Head,
     keys: &mut [i32],
     sums: &mut [i64],
@@ -14,26 +15,28 @@ fn show_left(
     book: &mut [i32],
     order: &mut [u16],
     number: i32,
-) {
+) -> io::Result<()> {
     let left = withdraw(head, keys, sums, index, book, number);
-    io::write_all(STDOUT_FILENO, b"WITHDRAWN");
-    print_count(left.number as usize);
-    io::write_all(STDOUT_FILENO, b"\n");
-    print_table(left.head, keys, sums, index, book, order);
-    print_book(book);
+    print!(rt; "WITHDRAWN")?;
+    print_count(rt, left.number as usize)?;
+    println!(rt; "")?;
+    print_table(rt, left.head, keys, sums, index, book, order)?;
+    print_book(rt, book)
 }
 
-pub fn show_withdrawn(number: i32) {
+pub fn show_withdrawn(rt: &impl Print, number: i32) -> io::Result<()> {
     let mut keys = [0i32; 8];
     let mut sums = [0i64; 16];
     let mut index = [0u16; 16];
     let mut order = [0u16; 8];
     let mut book = [0i32; 12];
     let readings = [7i32, 3, -3, 10, -3, 2, -2, 4];
-    let head = enter_fresh(2, &mut keys, &mut sums, &mut index, &mut book, &readings);
+    let head = enter_fresh(
+        rt, 2, &mut keys, &mut sums, &mut index, &mut book, &readings,
+    )?;
     book[8] = 9;
     book[11] = 9;
     show_left(
-        head, &mut keys, &mut sums, &mut index, &mut book, &mut order, number,
-    );
+        rt, head, &mut keys, &mut sums, &mut index, &mut book, &mut order, number,
+    )
 }

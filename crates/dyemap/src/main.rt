@@ -5,8 +5,8 @@
 
 ghost use Rattle.std.specs.Prelude.{◌≤◌, length};
 
-use libc::{STDERR_FILENO, STDIN_FILENO, STDOUT_FILENO};
 use report::{MOST_BYTES, ROOM, report};
+use std::io::{Read, Stdin};
 
 // How many bytes were read, and whether reading failed.
 #[derive(Drop)]
@@ -16,24 +16,29 @@ struct Got {
 }
 
 // One read of standard input; 0 bytes at its end.
-fn read_more(part: &mut [u8]) -> Got
+fn read_more(input: &mut Stdin, part: &mut [u8]) -> Got
     ensures { result.bytes ≤ length part.new }
 {
-    let moved = libc::read(STDIN_FILENO, part);
-    Got {
-        bytes: io::count(moved, part),
-        failed: moved < 0,
+    match input.read(part) {
+        Ok(bytes) => Got {
+            bytes,
+            failed: false,
+        },
+        Err(_) => Got {
+            bytes: 0,
+            failed: true,
+        },
     }
 }
 
 // Reads until the buffer is full or the input ends.
-fn read_input(buffer: &mut [u8]) -> Got
+fn read_input(input: &mut Stdin, buffer: &mut [u8]) -> Got
     ensures { result.bytes ≤ length buffer.new }
 {
     let size = buffer.len();
     let mut bytes = 0;
     while bytes < size {
-        let more = read_more(&mut buffer[bytes..size]);
+        let more = read_more(input, &mut buffer[bytes..size]);
         if more.failed {
             return Got {
                 bytes,
@@ -52,25 +57,22 @@ fn read_input(buffer: &mut [u8]) -> Got
 }
 
 // Prints the report of a log, and answers whether it was written whole.
-fn print_report(log: &[u8]) -> bool {
+fn print_report(rt: &impl Print, log: &[u8]) -> bool {
     let mut out = [0u8; ROOM];
     let bytes = report(log, &mut out);
-    io::write_all(STDOUT_FILENO, &out[0..bytes])
+    rt.write_all(&out[0..bytes]).is_ok()
 }
 
-fn main() {
+fn main(rt: HostRuntime) {
     // One byte more than the longest log, so that a longer one is told from it.
     let mut log = [0u8; MOST_BYTES + 1];
-    let got = read_input(&mut log);
+    let got = read_input(&mut rt.stdin(), &mut log);
     let bytes = got.bytes;
     if got.failed {
-        io::write_all(STDERR_FILENO, b"dyemap: standard input cannot be read\n");
+        let _ = eprintln!(rt; "dyemap: standard input cannot be read");
         return;
     }
-    if !print_report(&log[0..bytes]) {
-        io::write_all(
-            STDERR_FILENO,
-            b"dyemap: the report cannot be written whole\n",
-        );
+    if !print_report(&rt, &log[0..bytes]) {
+        let _ = eprintln!(rt; "dyemap: the report cannot be written whole");
     }
 }

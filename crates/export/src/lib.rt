@@ -1,8 +1,7 @@
-// The calls for C and Rust: `extern "C"` functions over plain numbers and slices. A slice passes as a
-// pointer and a length. A head passes as its six numbers, by value where a call only reads it and
-// each behind a pointer where the call hands a head back. The contracts are the calls' own, of the
-// heads that the six numbers make. Nothing proves that a caller in another language passes what
-// these declarations say: c/vimrothi.h has what it owes.
+// The calls for C and Rust, over plain numbers and slices. A head passes as its six numbers, by value
+// where a call only reads it and each behind a reference where the call hands a head back. The
+// contracts are the calls' own, of the heads that the six numbers make. `export_c` has these functions
+// as C calls them.
 #![tactic(auto)]
 
 ghost use Rattle.table.specs.Table.{Settings};
@@ -11,7 +10,7 @@ ghost use Rattle.book.specs.Calls.{fresh_refusal, after_fresh, enter, merge_refu
 ghost use Rattle.book.specs.Heads.{booked_in, lent_in, AnswersBookIn, EntersBookIn, booked};
 ghost use Rattle.listing.specs.Listing.{ListsIn};
 ghost use Rattle.filter.specs.Filter.{FiltersIn};
-ghost use Rattle.log.specs.Loading.{LoadsIn, load};
+ghost use Rattle.load.specs.Loading.{LoadsIn, load};
 ghost use Rattle.report.specs.Report.{Reports};
 ghost use Rattle.export.specs.Numbers.{head_from};
 
@@ -19,8 +18,7 @@ use table::Head;
 
 // Makes a fresh table of these settings. The readings and points told are 0, refused or not, whatever
 // they were.
-#[unsafe(no_mangle)]
-pub extern "C" fn vimrothi_fresh(
+pub fn vimrothi_fresh(
     d: &mut usize,
     fineness: &mut u32,
     capacity: &mut usize,
@@ -48,8 +46,7 @@ pub extern "C" fn vimrothi_fresh(
 }
 
 // Enters a list of readings, each with its number, and tells how many were taken.
-#[unsafe(no_mangle)]
-pub extern "C" fn vimrothi_enter(
+pub fn vimrothi_enter(
     d: &mut usize,
     fineness: &mut u32,
     capacity: &mut usize,
@@ -88,8 +85,7 @@ pub extern "C" fn vimrothi_enter(
 }
 
 // Adds a source table, which is only read, to a target table.
-#[unsafe(no_mangle)]
-pub extern "C" fn vimrothi_merge(
+pub fn vimrothi_merge(
     d: &mut usize,
     fineness: &mut u32,
     capacity: &mut usize,
@@ -158,8 +154,7 @@ pub extern "C" fn vimrothi_merge(
 }
 
 // Takes back the reading that has this number.
-#[unsafe(no_mangle)]
-pub extern "C" fn vimrothi_withdraw(
+pub fn vimrothi_withdraw(
     d: &mut usize,
     fineness: &mut u32,
     capacity: &mut usize,
@@ -197,8 +192,7 @@ pub extern "C" fn vimrothi_withdraw(
 }
 
 // Lists a table's points in the order of their keys.
-#[unsafe(no_mangle)]
-pub extern "C" fn vimrothi_list(
+pub fn vimrothi_list(
     d: usize,
     fineness: u32,
     capacity: usize,
@@ -226,8 +220,7 @@ pub extern "C" fn vimrothi_list(
 }
 
 // Answers queries over a table, which is only read.
-#[unsafe(no_mangle)]
-pub extern "C" fn vimrothi_filter(
+pub fn vimrothi_filter(
     d: usize,
     fineness: u32,
     capacity: usize,
@@ -263,8 +256,7 @@ pub extern "C" fn vimrothi_filter(
 
 // Loads a log with a book of this room, and tells its length or the offset that it was refused at.
 // What the head was before is not read.
-#[unsafe(no_mangle)]
-pub extern "C" fn vimrothi_load(
+pub fn vimrothi_load(
     log: &[u8],
     book_room: usize,
     d: &mut usize,
@@ -283,7 +275,7 @@ pub extern "C" fn vimrothi_load(
         let after = head_from d.new fineness.new capacity.new room.new readings.new points.new in
         LoadsIn (head_of o.settings o.booked.room) o result offset.new after keys sums index book }
 {
-    let loaded = log::load(log, book_room, keys, sums, index, book);
+    let loaded = load::load(log, book_room, keys, sums, index, book);
     *d = loaded.head.d;
     *fineness = loaded.head.fineness;
     *capacity = loaded.head.capacity;
@@ -295,8 +287,7 @@ pub extern "C" fn vimrothi_load(
 }
 
 // Writes what dyemap prints for a log, and answers how many bytes that is.
-#[unsafe(no_mangle)]
-pub extern "C" fn vimrothi_report(log: &[u8], out: &mut [u8]) -> usize
+pub fn vimrothi_report(log: &[u8], out: &mut [u8]) -> usize
     ensures { Reports log.now out.old result out.new }
 {
     report::report(log, out)

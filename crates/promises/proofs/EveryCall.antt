@@ -20,7 +20,7 @@ use Rattle.listing.specs.Listing.{list_refusal, after_list, Lists}
 use Rattle.filter.specs.Filter.{Lent, filter_refusal, after_filter, Filters}
 use Rattle.reader.specs.Items.{found_at}
 use Rattle.reader.specs.Reader.{here, moved_on}
-use Rattle.log.specs.Loading.{load, Loads}
+use Rattle.load.specs.Loading.{load, Loads}
 use Rattle.report.specs.Report.{report, fitting, Reports}
 use Rattle.export.specs.Numbers as numbers
 use Rattle.promises.specs.Allowed.{Only, One, Ensures, Requires, AnswerAndMemory, Allows, Answering}

@@ -25,10 +25,10 @@ use Rattle.book.proofs.Keeping.{withdraw_keeps}
 use Rattle.book.proofs.TakingBack.{withdraw_takes_back}
 use Rattle.reader.specs.Items.{settings_of}
 use Rattle.reader.specs.Walk.{items, before}
-use Rattle.log.specs.Loading.{start_refusal, load}
-use Rattle.log.specs.Numbering.{numbering}
-use Rattle.log.specs.Theorems.{entered_of, table_of}
-use Rattle.log.proofs.Leaving.{load_accepted, start_zero}
+use Rattle.load.specs.Loading.{start_refusal, load}
+use Rattle.load.specs.Numbering.{numbering}
+use Rattle.load.specs.Theorems.{entered_of, table_of}
+use Rattle.load.proofs.Leaving.{load_accepted, start_zero}
 use Rattle.promises.specs.History.{starting, entering, merging, offering, withdrawing, loading, capacity, settings_in, run, unless_refused, without_number, taken, readings}
 use Rattle.promises.specs.Order.{BookIsTaken, AllTaken}
 use Rattle.promises.proofs.Refusals.{refusals_exact}

@@ -9,9 +9,9 @@ use Rattle.book.proofs.Entering.{Sized}
 use Rattle.reader.specs.Items.{after_settings, settings_of}
 use Rattle.reader.specs.Content.{Brought}
 use Rattle.reader.specs.Walk.{Walk, then, ends, readings_in, readings, items, before}
-use Rattle.log.specs.Numbering.{numbering}
-use Rattle.log.proofs.Among.{numbering_sized}
-use Rattle.log.proofs.Leaving.{SizedReading, SizedWalk, walk_sized}
+use Rattle.load.specs.Numbering.{numbering}
+use Rattle.load.proofs.Among.{numbering_sized}
+use Rattle.load.proofs.Leaving.{SizedReading, SizedWalk, walk_sized}
 
 -- readings as a log brings them
 abbrev SizedAll : ℕ → List Brought → Type 0

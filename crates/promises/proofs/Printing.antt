@@ -27,10 +27,10 @@ use Rattle.filter.specs.Answer.{code, answer}
 use Rattle.reader.specs.Items.{settings_of, item_at, number_of}
 use Rattle.reader.specs.Content.{Said, reads, asks, refuses}
 use Rattle.reader.specs.Walk as log
-use Rattle.log.specs.Loading.{start_refusal, load}
-use Rattle.log.specs.Numbering.{numbering}
-use Rattle.log.proofs.Among.{numbering_readings}
-use Rattle.log.proofs.Leaving.{either_zero, start_zero}
+use Rattle.load.specs.Loading.{start_refusal, load}
+use Rattle.load.specs.Numbering.{numbering}
+use Rattle.load.proofs.Among.{numbering_readings}
+use Rattle.load.proofs.Leaving.{either_zero, start_zero}
 use Rattle.reader.specs.Walk.{items}
 use Rattle.text.specs.Text.{line}
 use Rattle.report.specs.Report.{most_log_capacity, book_room, settings_refusal, point_word, head_line, point_line, point_lines, answer_line, answer_lines, query_text, per_query, table_text}

@@ -11,8 +11,8 @@ use Rattle.table.specs.Calls.{ranged}
 use Rattle.table.specs.Sound.{Ranged}
 use Rattle.table.proofs.Soundness.{to_ranged, of_ranged}
 use Rattle.reader.specs.Items.{settings_of, item_at, number_of}
-use Rattle.log.specs.Loading.{load}
-use Rattle.log.proofs.Leaving.{load_settings}
+use Rattle.load.specs.Loading.{load}
+use Rattle.load.proofs.Leaving.{load_settings}
 use Rattle.report.specs.Report.{most_bytes, most_log_capacity, table_text, loaded_text, settings_refusal, settled_text, report}
 use Rattle.promises.specs.Refusals.{Not}
 use Rattle.promises.specs.LogRefusals.{memory, Prints}

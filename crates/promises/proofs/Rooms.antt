@@ -11,8 +11,8 @@ use Rattle.book.proofs.Entering.{enter_ind}
 use Rattle.book.proofs.TakingBack.{withdraw_takes_back}
 use Rattle.reader.specs.Items.{settings_of}
 use Rattle.reader.specs.Walk.{items}
-use Rattle.log.specs.Loading.{Load, start_refusal, load}
-use Rattle.log.proofs.Leaving.{walk_room, load_accepted}
+use Rattle.load.specs.Loading.{Load, start_refusal, load}
+use Rattle.load.proofs.Leaving.{walk_room, load_accepted}
 use Rattle.promises.specs.History.{History, starting, entering, merging, offering, withdrawing, loading, room, settings_in, run, Begun}
 use Rattle.promises.proofs.Histories.{withdraw_refused}
 

@@ -17,18 +17,18 @@ use Rattle.reader.specs.declared.kinds.Kind.{Kind}
 use Rattle.reader.specs.Items.{after_settings, settings_of, item_at, width_of}
 use Rattle.reader.specs.Content.{Brought, Said, said_at}
 use Rattle.reader.specs.Walk.{Walk, then, ends, item_then, walk_from, walk, readings_in, readings, items, Place, before}
-use Rattle.log.specs.Loading.{Load, or_else, start_refusal, take_number, take_booked, item_number, stop_at, load_walk, started, load}
-use Rattle.log.specs.Numbering.{numbering}
-use Rattle.log.specs.Theorems.{entered_of}
+use Rattle.load.specs.Loading.{Load, or_else, start_refusal, take_number, take_booked, item_number, stop_at, load_walk, started, load}
+use Rattle.load.specs.Numbering.{numbering}
+use Rattle.load.specs.Theorems.{entered_of}
 use Rattle.reader.specs.declared.items.Item.{Item}
 use Rattle.reader.specs.declared.items.Item.TheVariants.{Of, End, Refused}
 use Rattle.reader.proofs.Forms.{Formed, formed}
 use Rattle.reader.proofs.Contents.{said_sized}
 use Rattle.reader.proofs.CutItems.{item_end}
-use Rattle.log.proofs.Leaving.{SizedReading, said_fine, walk_settings, items_loaded, load_accepted, start_zero}
-use Rattle.log.proofs.WholeLogs.{enter_numbered, enter_afresh, enter_said}
-use Rattle.log.proofs.Cuts.{place_from}
-use Rattle.log.proofs.Theorems.{taken_whole}
+use Rattle.load.proofs.Leaving.{SizedReading, said_fine, walk_settings, items_loaded, load_accepted, start_zero}
+use Rattle.load.proofs.WholeLogs.{enter_numbered, enter_afresh, enter_said}
+use Rattle.load.proofs.Cuts.{place_from}
+use Rattle.load.proofs.Theorems.{taken_whole}
 use Rattle.promises.specs.LogRefusals.{LoadStops, LoadRefuses}
 
 -- ---- what becomes of the readings before a place of a walk, entered into the table b with the numbers that they get there

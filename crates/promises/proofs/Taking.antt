@@ -18,11 +18,11 @@ use Rattle.reader.specs.Items.{after_settings, settings_of}
 use Rattle.reader.specs.Content.{Brought, Said, reads, asks, refuses}
 use Rattle.reader.specs.Walk as log
 use Rattle.reader.specs.Walk.{Walk, then, ends, items}
-use Rattle.log.specs.Loading.{Load, start_refusal, entry_for, take_number, take_booked, load_walk, load}
-use Rattle.log.specs.Numbering.{numbering}
-use Rattle.log.proofs.Among.{enter_none}
-use Rattle.log.proofs.Leaving.{SizedWalk, walk_sized, said_fine, load_accepted}
-use Rattle.log.proofs.WholeLogs.{enter_numbered, enter_afresh, accepted, load_yes, enter_said, entered_all}
+use Rattle.load.specs.Loading.{Load, start_refusal, entry_for, take_number, take_booked, load_walk, load}
+use Rattle.load.specs.Numbering.{numbering}
+use Rattle.load.proofs.Among.{enter_none}
+use Rattle.load.proofs.Leaving.{SizedWalk, walk_sized, said_fine, load_accepted}
+use Rattle.load.proofs.WholeLogs.{enter_numbered, enter_afresh, accepted, load_yes, enter_said, entered_all}
 use Rattle.promises.specs.History.{History, starting, entering, merging, offering, withdrawing, loading, capacity, room, settings_in, run, Begun, taken, NoneRefused, readings}
 use Rattle.promises.specs.Refusals.{WholeItems}
 use Rattle.promises.specs.Acceptance.{FitBook, SaidInForm, ItemsInForm, TakenExactly, InForm, Roomy, AcceptedInAnyOrder}

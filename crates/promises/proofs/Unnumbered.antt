@@ -14,8 +14,8 @@ use Rattle.book.specs.Book.{Numbered, OtherNumber}
 use Rattle.book.proofs.Testing.{at_among}
 use Rattle.numbers.proofs.Held.{below_on, all_tried}
 use Rattle.reader.specs.Content.{Given, Brought, unnumbered}
-use Rattle.log.specs.Loading.{with_number}
-use Rattle.log.specs.Numbering.{numbers_of, lowest_among, entry_among, numbering}
+use Rattle.load.specs.Loading.{with_number}
+use Rattle.load.specs.Numbering.{numbers_of, lowest_among, entry_among, numbering}
 use Rattle.promises.specs.Acceptance.{UnnumberedApart}
 use Rattle.promises.proofs.Sorted.{map_at}
 

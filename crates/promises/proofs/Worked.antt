@@ -32,7 +32,7 @@ use Rattle.reader.specs.Kinds.{kind_in, total}
 use Rattle.reader.specs.Items.{form_refusal, item_at}
 use Rattle.reader.specs.Content.{said_at}
 use Rattle.reader.specs.Walk.{walk, walk_from}
-use Rattle.log.specs.Loading.{load_walk, load}
+use Rattle.load.specs.Loading.{load_walk, load}
 use Rattle.promises.specs.History.{starting, capacity, room, run, taken}
 use Rattle.promises.specs.Worked.{slices, WorkedWays}
 use Rattle.promises.proofs.Taking.{taken_exactly}

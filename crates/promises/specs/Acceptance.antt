@@ -13,8 +13,8 @@ use Rattle.reader.specs.Items.{settings_of}
 use Rattle.reader.specs.Content.{Brought, unnumbered, Said, reads, asks, refuses}
 use Rattle.reader.specs.Walk as log
 use Rattle.reader.specs.Walk.{Walk, then, ends, items}
-use Rattle.log.specs.Loading.{start_refusal, load}
-use Rattle.log.specs.Numbering.{numbers_of, numbering}
+use Rattle.load.specs.Loading.{start_refusal, load}
+use Rattle.load.specs.Numbering.{numbers_of, numbering}
 use Rattle.promises.specs.History.{History, starting, entering, merging, offering, withdrawing, loading, capacity, room, settings_in, run, Begun, taken, NoneRefused, readings}
 use Rattle.promises.specs.Refusals.{WholeItems}
 use Rattle.promises.specs.Order.{ListedFrom}

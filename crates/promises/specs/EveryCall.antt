@@ -25,7 +25,7 @@ use Rattle.merge.proofs.merge as merge_call
 use Rattle.withdraw.proofs.withdraw as withdraw_call
 use Rattle.listing.proofs.list as list_call
 use Rattle.filter.proofs.filter as filter_call
-use Rattle.log.proofs.load as load_call
+use Rattle.load.proofs.load as load_call
 use Rattle.report.proofs.report as report_call
 use Rattle.export.proofs.vimrothi_fresh as fresh_for_C
 use Rattle.export.proofs.vimrothi_enter as enter_for_C

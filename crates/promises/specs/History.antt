@@ -7,8 +7,8 @@ use Rattle.book.specs.Calls.{fresh_refusal, after_fresh, parsed, enter, merge_re
 use Rattle.reader.specs.Items.{settings_of}
 use Rattle.reader.specs.Walk as log
 use Rattle.reader.specs.Walk.{items, before}
-use Rattle.log.specs.Loading.{start_refusal, load}
-use Rattle.log.specs.Numbering.{numbering}
+use Rattle.load.specs.Loading.{start_refusal, load}
+use Rattle.load.specs.Numbering.{numbering}
 
 -- Calls one after the other that end in one table. A table that is merged in has a history of its own: so it is merged once, and when all that belongs in
 -- it is in. What is done to it afterwards is in no history of the whole: "a withdrawal counts only if it is made in the table that ends as the whole, or in

@@ -8,9 +8,9 @@ use Rattle.reader.specs.Bytes.{byte_at}
 use Rattle.reader.specs.Kinds.{kind_of, body_length, is_listed, placed, of_dimension}
 use Rattle.reader.specs.declared.kinds.Kind.{Kind}
 use Rattle.reader.specs.Items.{settings_of, item_at, number_of}
-use Rattle.log.specs.Loading.{Load, not_started, item_number, load}
+use Rattle.load.specs.Loading.{Load, not_started, item_number, load}
 use Rattle.reader.specs.Walk.{items, Place, before}
-use Rattle.log.specs.Theorems.{entered_of, table_of}
+use Rattle.load.specs.Theorems.{entered_of, table_of}
 use Rattle.report.specs.Report.{most_bytes, most_log_capacity, book_room, refused_line, table_text, report}
 use Rattle.promises.specs.Refusals.{Not}
 

@@ -6,8 +6,8 @@ use Rattle.table.specs.Reading.{Reading}
 use Rattle.book.specs.Book.{OtherNumber}
 use Rattle.reader.specs.Items.{settings_of}
 use Rattle.reader.specs.Walk.{items, readings, queries}
-use Rattle.log.specs.Loading.{load}
-use Rattle.log.specs.Numbering.{numbering}
+use Rattle.load.specs.Loading.{load}
+use Rattle.load.specs.Numbering.{numbering}
 use Rattle.report.specs.Report.{most_bytes, settings_refusal, report}
 use Rattle.promises.specs.Acceptance.{ItemsInForm}
 use Rattle.promises.specs.LogRefusals.{memory}

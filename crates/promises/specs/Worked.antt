@@ -12,7 +12,7 @@ use Rattle.listing.specs.Listing.{listed}
 use Rattle.filter.specs.Answer.{answer}
 use Rattle.filter.specs.Worked.{near}
 use Rattle.reader.specs.Worked.{worked_log}
-use Rattle.log.specs.Loading.{load}
+use Rattle.load.specs.Loading.{load}
 use Rattle.promises.specs.History.{History, starting, entering, merging, offering, withdrawing, loading, settings_in, run, Begun, NoneRefused}
 use Rattle.promises.specs.Acceptance.{FitBook}
 

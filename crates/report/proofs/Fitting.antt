@@ -20,9 +20,9 @@ use Rattle.text.proofs.Theorems.{line_fits}
 use Rattle.reader.specs.Items.{after_settings, settings_of}
 use Rattle.reader.specs.Content.{Said, reads, asks, refuses}
 use Rattle.reader.specs.Walk.{Walk, then, ends, walk, queries_in, queries}
-use Rattle.log.specs.Loading.{load}
+use Rattle.load.specs.Loading.{load}
 use Rattle.reader.proofs.Walking.{query_count_lem}
-use Rattle.log.proofs.Leaving.{load_settings, load_fine}
+use Rattle.load.proofs.Leaving.{load_settings, load_fine}
 use Rattle.report.specs.Report.{most_bytes, most_log_capacity, book_room, head_word, point_word, answer_word, refused_word, head_line, point_numbers, point_line, point_lines, answer_line, query_text, per_query, table_text, refused_line, loaded_text, settings_refusal, settled_text, report, room}
 use Rattle.report.specs.Inner.{Printable}
 use Rattle.report.proofs.Settling.{few_points}

@@ -19,9 +19,9 @@ use Rattle.text.specs.Text.{Written}
 use Rattle.text.proofs.Lines.{written_then, written_room}
 use Rattle.reader.specs.Items.{after_settings, settings_of}
 use Rattle.reader.specs.Walk.{walk}
-use Rattle.log.specs.Loading.{Load, load, Loads}
+use Rattle.load.specs.Loading.{Load, load, Loads}
 use Rattle.table.proofs.Calls.{answered}
-use Rattle.log.proofs.Leaving.{load_offset, load_settings, load_fine}
+use Rattle.load.proofs.Leaving.{load_offset, load_settings, load_fine}
 use Rattle.report.specs.Report.{most_log_capacity, book_room, head_line, point_lines, answer_lines, refused_line, table_text, loaded_text, settled_text}
 use Rattle.report.specs.Inner.{counts_line, HeadRoom, RefusedRoom, PointsRoom, AnswersRoom, TableRoom, LentFor, Settled}
 use Rattle.report.proofs.Fitting.{text_in, loaded_fits}

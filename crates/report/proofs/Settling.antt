@@ -13,11 +13,11 @@ use Rattle.table.specs.Sound.{Ranged}
 use Rattle.table.proofs.Refusals.{first_zero, first_at, passed, failed, T_of}
 use Rattle.table.proofs.Soundness.{to_ranged}
 use Rattle.reader.specs.Items.{settings_of, item_at, number_of}
-use Rattle.log.specs.Loading.{or_else}
+use Rattle.load.specs.Loading.{or_else}
 use Rattle.reader.specs.declared.items.Item.{Item}
 use Rattle.reader.specs.declared.settings.Asked.{Asked}
-use Rattle.log.proofs.Leaving.{either_zero}
-use Rattle.log.proofs.Starting.{of_asked, or_first}
+use Rattle.load.proofs.Leaving.{either_zero}
+use Rattle.load.proofs.Starting.{of_asked, or_first}
 use Rattle.report.specs.declared.opening.Opening.{Opening}
 use Rattle.report.specs.Report.{most_log_capacity, settings_refusal}
 use Rattle.report.specs.Inner.{Opens}

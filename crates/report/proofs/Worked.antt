@@ -27,7 +27,7 @@ use Rattle.reader.specs.Kinds.{kind_in, total}
 use Rattle.reader.specs.Items.{form_refusal, item_at}
 use Rattle.reader.specs.Content.{said_at}
 use Rattle.reader.specs.Walk.{walk, walk_from}
-use Rattle.log.specs.Loading.{load_walk, load}
+use Rattle.load.specs.Loading.{load_walk, load}
 use Rattle.text.specs.Text.{digits_in, decimal, spaced, line}
 use Rattle.report.specs.Report.{point_lines, per_query, settings_refusal, report}
 use Rattle.report.specs.Worked.{ReportCases}

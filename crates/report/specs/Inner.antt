@@ -15,7 +15,7 @@ use Rattle.reader.specs.Items.{settings_of, item_at}
 use Rattle.reader.specs.Content.{said_at}
 use Rattle.reader.specs.Walk.{items}
 use Rattle.book.specs.Book.{Booked}
-use Rattle.log.specs.Loading.{load}
+use Rattle.load.specs.Loading.{load}
 use Rattle.reader.specs.declared.items.Item.{Item}
 use Rattle.reader.specs.declared.items.Item.TheVariants.{Of, End, Refused}
 use Rattle.report.specs.declared.opening.Opening.{Opening}

@@ -10,7 +10,7 @@ use Rattle.filter.specs.Answer.{code, answer}
 use Rattle.reader.specs.Items.{settings_of, item_at, number_of}
 use Rattle.reader.specs.Content.{Said, reads, asks, refuses}
 use Rattle.reader.specs.Walk.{Walk, then, ends, items}
-use Rattle.log.specs.Loading.{Load, or_else, load}
+use Rattle.load.specs.Loading.{Load, or_else, load}
 use Rattle.text.specs.Text.{line}
 
 -- "16: program: log over 16,384 bytes, or C over 512"

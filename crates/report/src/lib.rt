@@ -7,7 +7,7 @@ ghost use Rattle.table.specs.Calls.{lent};
 ghost use Rattle.table.specs.Heads.{settings, table};
 ghost use Rattle.book.specs.Heads.{lent_in};
 ghost use Rattle.text.specs.Text.{Written};
-ghost use Rattle.log.specs.Loading.{load};
+ghost use Rattle.load.specs.Loading.{load};
 ghost use Rattle.report.specs.Report.{book_room, Reports, table_text, loaded_text, settled_text};
 ghost use Rattle.report.specs.Inner.{TableRoom, LentFor, Settled};
 
@@ -22,7 +22,7 @@ use crate::opening::opening_of;
 use crate::points::put_points;
 use lattice::limits::MOST_D;
 use lattice::refusals::PROGRAM_LIMIT;
-use log::load;
+use load::load;
 use table::Head;
 
 // The program refuses a longer log, and one of more points.

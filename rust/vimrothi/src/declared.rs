@@ -1,4 +1,4 @@
-//! The declarations of `crates/export/src/lib.rt`, one for one. A slice there is a pointer and a length
+//! The declarations of `crates/export_c/src/lib.rt`, one for one. A slice there is a pointer and a length
 //! here. `tests/declarations.rs` holds them to the Rattle source, and the comparison in `rust/compare` runs them.
 
 extern "C" {

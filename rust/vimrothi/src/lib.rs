@@ -69,8 +69,7 @@
 //! # Ok::<(), Refusal>(())
 //! ```
 //!
-//! The library is compiled for x86-64 Linux. Run `rt staticlib export` before this crate is built; on Arm run
-//! `.ci/library`, which compiles it for the machine.
+//! The library is compiled for x86-64 Linux. Run `.ci/library` before this crate is built.
 
 #![deny(missing_docs)]
 #![deny(unsafe_op_in_unsafe_fn)]

@@ -1,4 +1,4 @@
-//! What is declared for other languages is what the library has. The functions of `crates/export`, the prototypes of
+//! What is declared for other languages is what the library has. The functions of `crates/export_c`, the prototypes of
 //! `c/vimrothi.h` and the declarations of this crate are read from their files and compared: names, the order of the
 //! parameters, their types, and the result. So are the numbers and limits that the header and this crate name, and the
 //! words of the numbers with documents 01 and 02.
@@ -44,7 +44,7 @@ fn functions_after(mark: &str, text: &str, passed: fn(&str, &str) -> Vec<(String
     code.split(mark).skip(1).map(read).collect()
 }
 
-/// The functions of `crates/export`. A slice is passed as a pointer and a length, a reference as a pointer.
+/// The functions of `crates/export_c`. A slice is passed as a pointer and a length, a reference as a pointer.
 fn exported() -> Vec<Function> {
     fn passed(name: &str, of: &str) -> Vec<(String, String)> {
         let (pointer, target) = match (of.strip_prefix("&mut "), of.strip_prefix('&')) {
@@ -60,8 +60,8 @@ fn exported() -> Vec<Function> {
             None => vec![(name.to_string(), format!("{pointer} {target}"))],
         }
     }
-    let functions = functions_after("extern \"C\" fn ", &text_of("crates/export/src/lib.rt"), passed);
-    assert!(!functions.is_empty(), "export has functions");
+    let functions = functions_after("extern \"C\" fn ", &text_of("crates/export_c/src/lib.rt"), passed);
+    assert!(!functions.is_empty(), "export_c has functions");
     functions
 }
 
@@ -124,7 +124,7 @@ fn in_rust(declared: &str) -> (String, String) {
     }
 }
 
-/// Tests that these are the functions of `crates/export`, one for one.
+/// Tests that these are the functions of `crates/export_c`, one for one.
 fn same_as_exported(functions: &[Function]) {
     let names = |functions: &[Function]| -> Vec<String> { functions.iter().map(|one| one.name.clone()).collect() };
     let exported = exported();

@@ -1,0 +1,237 @@
+// The static library for C and Rust: the calls of `export` as `extern "C"` functions of the same names,
+// each with the clauses that it has there. A slice passes as a pointer and a length, and what the call
+// hands back is behind a pointer. Nothing proves that a caller in another language passes what these
+// declarations say: c/vimrothi.h has what it owes.
+#![tactic(auto)]
+
+ghost use Rattle.table.specs.Table.{Settings};
+ghost use Rattle.table.specs.Heads.{head_of, settings};
+ghost use Rattle.book.specs.Calls.{fresh_refusal, after_fresh, enter, merge_refusal, after_merge, withdraw_refusal, after_withdraw};
+ghost use Rattle.book.specs.Heads.{booked_in, lent_in, AnswersBookIn, EntersBookIn, booked};
+ghost use Rattle.listing.specs.Listing.{ListsIn};
+ghost use Rattle.filter.specs.Filter.{FiltersIn};
+ghost use Rattle.load.specs.Loading.{LoadsIn, load};
+ghost use Rattle.report.specs.Report.{Reports};
+ghost use Rattle.export.specs.Numbers.{head_from};
+
+// Makes a fresh table of these settings. The readings and points told are 0, refused or not, whatever
+// they were.
+#[unsafe(no_mangle)]
+pub extern "C" fn vimrothi_fresh(
+    d: &mut usize,
+    fineness: &mut u32,
+    capacity: &mut usize,
+    room: &mut usize,
+    readings: &mut usize,
+    points: &mut usize,
+    keys: &mut [i32],
+    sums: &mut [i64],
+    index: &mut [u16],
+    book: &mut [i32],
+) -> u8
+    ensures { (let c : Settings = record { d = d.entry.now; S = fineness.old; C = capacity.old } in
+        let b = lent_in room.old keys sums index book in
+        let after = head_from d.exit.now fineness.new capacity.new room.new readings.new points.new in
+        AnswersBookIn (head_of c room.old) (fresh_refusal c b) (after_fresh c b) result after keys sums index book) }
+{
+    export::vimrothi_fresh(
+        d, fineness, capacity, room, readings, points, keys, sums, index, book,
+    )
+}
+
+// Enters a list of readings, each with its number, and tells how many were taken.
+#[unsafe(no_mangle)]
+pub extern "C" fn vimrothi_enter(
+    d: &mut usize,
+    fineness: &mut u32,
+    capacity: &mut usize,
+    room: &mut usize,
+    readings: &mut usize,
+    points: &mut usize,
+    keys: &mut [i32],
+    sums: &mut [i64],
+    index: &mut [u16],
+    book: &mut [i32],
+    list: &[i32],
+    taken: &mut usize,
+) -> u8
+    ensures { let head = head_from d.old fineness.old capacity.old room.old readings.old points.old in
+        let b = booked_in head keys sums index book in
+        let after = head_from d.new fineness.new capacity.new room.new readings.new points.new in
+        EntersBookIn head (enter (settings head) b list.now) taken.new result after keys sums index book }
+{
+    export::vimrothi_enter(
+        d, fineness, capacity, room, readings, points, keys, sums, index, book, list, taken,
+    )
+}
+
+// Adds a source table, which is only read, to a target table.
+#[unsafe(no_mangle)]
+pub extern "C" fn vimrothi_merge(
+    d: &mut usize,
+    fineness: &mut u32,
+    capacity: &mut usize,
+    room: &mut usize,
+    readings: &mut usize,
+    points: &mut usize,
+    keys: &mut [i32],
+    sums: &mut [i64],
+    index: &mut [u16],
+    book: &mut [i32],
+    source_d: usize,
+    source_fineness: u32,
+    source_capacity: usize,
+    source_room: usize,
+    source_readings: usize,
+    source_points: usize,
+    source_keys: &[i32],
+    source_sums: &[i64],
+    source_index: &[u16],
+    source_book: &[i32],
+) -> u8
+    ensures { let head = head_from d.old fineness.old capacity.old room.old readings.old points.old in
+        let source = head_from source_d source_fineness source_capacity source_room source_readings source_points in
+        let c = settings head in
+        let e = settings source in
+        let b = booked_in head keys sums index book in
+        let s = booked source source_keys.now source_sums.now source_index.now source_book.now in
+        let after = head_from d.new fineness.new capacity.new room.new readings.new points.new in
+        AnswersBookIn head (merge_refusal c b e s) (after_merge c b e s) result after keys sums index book }
+{
+    export::vimrothi_merge(
+        d,
+        fineness,
+        capacity,
+        room,
+        readings,
+        points,
+        keys,
+        sums,
+        index,
+        book,
+        source_d,
+        source_fineness,
+        source_capacity,
+        source_room,
+        source_readings,
+        source_points,
+        source_keys,
+        source_sums,
+        source_index,
+        source_book,
+    )
+}
+
+// Takes back the reading that has this number.
+#[unsafe(no_mangle)]
+pub extern "C" fn vimrothi_withdraw(
+    d: &mut usize,
+    fineness: &mut u32,
+    capacity: &mut usize,
+    room: &mut usize,
+    readings: &mut usize,
+    points: &mut usize,
+    keys: &mut [i32],
+    sums: &mut [i64],
+    index: &mut [u16],
+    book: &mut [i32],
+    number: i32,
+) -> u8
+    ensures { let head = head_from d.old fineness.old capacity.old room.old readings.old points.old in
+        let c = settings head in
+        let b = booked_in head keys sums index book in
+        let after = head_from d.new fineness.new capacity.new room.new readings.new points.new in
+        AnswersBookIn head (withdraw_refusal c b number) (after_withdraw c b number) result after keys sums index book }
+{
+    export::vimrothi_withdraw(
+        d, fineness, capacity, room, readings, points, keys, sums, index, book, number,
+    )
+}
+
+// Lists a table's points in the order of their keys.
+#[unsafe(no_mangle)]
+pub extern "C" fn vimrothi_list(
+    d: usize,
+    fineness: u32,
+    capacity: usize,
+    room: usize,
+    readings: usize,
+    points: usize,
+    keys: &[i32],
+    sums: &[i64],
+    index: &[u16],
+    book: &[i32],
+    list: &mut [u16],
+) -> u8
+    ensures { let head = head_from d fineness capacity room readings points in
+        ListsIn (settings head) (booked head keys.now sums.now index.now book.now) result list }
+{
+    export::vimrothi_list(
+        d, fineness, capacity, room, readings, points, keys, sums, index, book, list,
+    )
+}
+
+// Answers queries over a table, which is only read.
+#[unsafe(no_mangle)]
+pub extern "C" fn vimrothi_filter(
+    d: usize,
+    fineness: u32,
+    capacity: usize,
+    room: usize,
+    readings: usize,
+    points: usize,
+    keys: &[i32],
+    sums: &[i64],
+    index: &[u16],
+    book: &[i32],
+    first: &mut [i64],
+    second: &mut [i64],
+    queries: &[i32],
+    values: &mut [i32],
+    codes: &mut [u8],
+) -> u8
+    ensures { let head = head_from d fineness capacity room readings points in
+        let b = booked head keys.now sums.now index.now book.now in
+        FiltersIn (settings head) b queries.now result first second values codes }
+{
+    export::vimrothi_filter(
+        d, fineness, capacity, room, readings, points, keys, sums, index, book, first, second,
+        queries, values, codes,
+    )
+}
+
+// Loads a log with a book of this room, and tells its length or the offset that it was refused at.
+// What the head was before is not read.
+#[unsafe(no_mangle)]
+pub extern "C" fn vimrothi_load(
+    log: &[u8],
+    book_room: usize,
+    d: &mut usize,
+    fineness: &mut u32,
+    capacity: &mut usize,
+    room: &mut usize,
+    readings: &mut usize,
+    points: &mut usize,
+    keys: &mut [i32],
+    sums: &mut [i64],
+    index: &mut [u16],
+    book: &mut [i32],
+    offset: &mut usize,
+) -> u8
+    ensures { let o = load log.now (lent_in book_room keys sums index book) in
+        let after = head_from d.new fineness.new capacity.new room.new readings.new points.new in
+        LoadsIn (head_of o.settings o.booked.room) o result offset.new after keys sums index book }
+{
+    export::vimrothi_load(
+        log, book_room, d, fineness, capacity, room, readings, points, keys, sums, index, book,
+        offset,
+    )
+}
+
+// Writes what dyemap prints for a log, and answers how many bytes that is.
+#[unsafe(no_mangle)]
+pub extern "C" fn vimrothi_report(log: &[u8], out: &mut [u8]) -> usize
+    ensures { Reports log.now out.old result out.new }
+{
+    export::vimrothi_report(log, out)
+}
