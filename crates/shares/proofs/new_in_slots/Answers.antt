@@ -1,7 +1,6 @@
 use borrow.Author.Rules.{rules}
 use native.Mathlib.Omega.{arith}
 use mathlib.Core.Path.{refl}
-use Prim.Native.Nat.{◌-◌}
 use Rattle.shares.proofs.Slots.{count_none, count_more, count_few}
 use Rattle.shares.proofs.new_in_slots.Goals as goal
 

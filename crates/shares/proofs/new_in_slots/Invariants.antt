@@ -1,5 +1,5 @@
 use mathlib.Core.Path.{◌≡◌}
-use Prim.Native.Nat.{◌+◌, ◌-◌, ◌≤◌}
+use Prim.Native.Nat.{◌+◌, ◌≤◌}
 use Rattle.table.specs.Heads.{settings}
 use Rattle.table.specs.Pour.{news_in}
 use Rattle.shares.specs.Slots.{keys_to}

@@ -1,13 +1,12 @@
 use borrow.Author.Rules.{rules}
 use native.Mathlib.Omega.{arith}
 use mathlib.Core.Path.{refl, sym, subst, ◌∙◌}
-use Prim.Native.Nat.{suc, ◌-◌}
+use Prim.Native.Nat.{suc}
 use mir.Syntax.{w32}
 use lib.IntN.{ℤ}
 use mir.Val.{to_z, of_z}
 use mir.Facts.{to_z-of_z}
 use Rattle.table.specs.Heads.{settings, table}
-use Rattle.table.specs.Pour.{pour}
 use Rattle.shares.specs.Slots.{rows_to, SharesToPour}
 use Rattle.table.proofs.Turns.{pour_turn}
 use Rattle.shares.proofs.Slots.{pour_none, rows_none, rows_more, slot_pourable}

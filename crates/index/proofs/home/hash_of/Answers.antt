@@ -1,7 +1,6 @@
-use Rattle.std.proofs.Common.{◌-◌, sym, ap, ◌∙◌, arith, to_z-of_z, w32, SFits, rules}
+use Rattle.std.proofs.Common.{sym, ap, ◌∙◌, arith, to_z-of_z, w32, SFits, rules}
 use Rattle.whole.specs.Lists.{at}
 use Rattle.whole.specs.Word.{word}
-use Rattle.index.specs.Keys.{hash}
 use Rattle.index.proofs.Hash.{hash_turn, hash_done}
 use Rattle.index.proofs.home.hash_of.Goals as goal
 

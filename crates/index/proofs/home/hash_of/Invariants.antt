@@ -1,5 +1,5 @@
 -- The hash of what is left of the key, from the h so far, stays the hash of the key.
-use Rattle.std.proofs.Common.{◌≡◌, ◌-◌, ◌≤◌, length, drop}
+use Rattle.std.proofs.Common.{◌≡◌, ◌≤◌, length, drop}
 use Rattle.index.specs.Keys.{hash}
 use Rattle.index.proofs.home.hash_of.Given as goal
 

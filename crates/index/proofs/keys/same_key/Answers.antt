@@ -1,7 +1,6 @@
-use Rattle.std.proofs.Common.{◌-◌, length, refl, ap, w32, SFits, of_z, rules}
+use Rattle.std.proofs.Common.{refl, ap, w32, SFits, of_z, rules}
 use Rattle.whole.specs.Lists.{at}
 use Rattle.whole.proofs.Signed.{bits_eq}
-use Rattle.index.specs.Keys.{same}
 use Rattle.index.proofs.Equality.{same_turn, same_stop, same_lengths, same_done}
 use Rattle.index.proofs.keys.same_key.Goals as goal
 

@@ -1,5 +1,5 @@
 -- The loop has passed the coordinates before i, all of them equal; the first that differs ends it.
-use Rattle.std.proofs.Common.{◌≡◌, ◌-◌, ◌≤◌, length, drop}
+use Rattle.std.proofs.Common.{◌≡◌, ◌≤◌, length, drop}
 use Rattle.index.specs.Keys.{same}
 use Rattle.index.proofs.keys.same_key.Given as goal
 

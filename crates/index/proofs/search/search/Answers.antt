@@ -1,4 +1,4 @@
-use Rattle.std.proofs.Common.{◌≡◌, ℕ, ◌-◌, ◌<◌, length, refl, arith}
+use Rattle.std.proofs.Common.{◌≡◌, ◌<◌, length, refl, arith}
 use Rattle.index.specs.Search.{entry_at}
 use Rattle.index.proofs.Hash.{home_lt}
 use Rattle.index.proofs.Ring.{next_lt}
@@ -48,4 +48,5 @@ returns-then-same_key c =
     let used : entry_at c.args.index.now l.at ≡ 0 → ⊥ = λ z. let h = c.if-e-eq0.false in omega arith in
     finds c.args.keys.now c.args.index.now c.args.key.now (length c.args.index.now)
     l.at _ used (c.requires.named l.at) c.same_key.ensures c.if-same_key.true l.invariant.3
+
 -- TODO open, and no old answer: index::keys::same_key

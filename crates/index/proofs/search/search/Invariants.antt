@@ -1,6 +1,6 @@
 -- From each place that the loop comes to, the walk ends where the walk from the home place does. An empty place lies ahead, and each
 -- turn is one place nearer to the end of the walk.
-use Rattle.std.proofs.Common.{◌≡◌, ◌-◌, ◌<◌, length}
+use Rattle.std.proofs.Common.{◌≡◌, ◌<◌, length}
 use Rattle.index.proofs.Ring.{ahead}
 use Rattle.index.proofs.Steps.{stop, walked, sought}
 use Rattle.index.proofs.search.search.Given as goal

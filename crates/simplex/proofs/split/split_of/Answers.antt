@@ -21,22 +21,22 @@ pub overflow_mul-result : goal.overflow_mul-result
 overflow_mul-result c =
     let is : c.floor_of-q.result ≡ floor c.args.x c.args.w = c.floor_of-q.ensures ∙ ap (λ (z : ℤ). floor z c.args.w) {x = W32 c.args.x} (zeq (search zlin depth 14) (omega (arith, zin))) in
     let whole : c.args.x ≡ pos c.args.w *ℤ c.floor_of-q.result +ℤ pos (remainder c.args.x c.args.w) = rw is (div_rem c.args.x c.args.w c.requires.total.some) in
-    let sized : Sized c.args.x (pos c.args.w *ℤ c.floor_of-q.result) c.floor_of-q.result c.args.w (remainder c.args.x c.args.w) = let x = c.args.x in let w = c.args.w in record { near = rw is (part_of w x c.requires.total.some c.requires.abs).near; less = remainder_lt x w c.requires.total.some; parts = eq_plus x (pos w *ℤ c.floor_of-q.result) (pos (remainder x w)) whole; } in
+    let sized : Sized c.args.x (pos c.args.w *ℤ c.floor_of-q.result) c.floor_of-q.result c.args.w (remainder c.args.x c.args.w) = let x = c.args.x in let w = c.args.w in record { near = rw is (part_of w x c.requires.total.some c.requires.abs).near; less = remainder_lt x w c.requires.total.some; parts = eq_plus x (pos w *ℤ c.floor_of-q.result) (pos (remainder x w)) whole } in
     let s = sized in zfits (search zlow depth 14) (omega (arith, zin))
 
 pub overflow_sub-result : goal.overflow_sub-result
 overflow_sub-result c =
     let is : c.floor_of-q.result ≡ floor c.args.x c.args.w = c.floor_of-q.ensures ∙ ap (λ (z : ℤ). floor z c.args.w) {x = W32 c.args.x} (zeq (search zlin depth 14) (omega (arith, zin))) in
     let whole : c.args.x ≡ pos c.args.w *ℤ c.floor_of-q.result +ℤ pos (remainder c.args.x c.args.w) = rw is (div_rem c.args.x c.args.w c.requires.total.some) in
-    let sized : Sized c.args.x (pos c.args.w *ℤ c.floor_of-q.result) c.floor_of-q.result c.args.w (remainder c.args.x c.args.w) = let x = c.args.x in let w = c.args.w in record { near = rw is (part_of w x c.requires.total.some c.requires.abs).near; less = remainder_lt x w c.requires.total.some; parts = eq_plus x (pos w *ℤ c.floor_of-q.result) (pos (remainder x w)) whole; } in
+    let sized : Sized c.args.x (pos c.args.w *ℤ c.floor_of-q.result) c.floor_of-q.result c.args.w (remainder c.args.x c.args.w) = let x = c.args.x in let w = c.args.w in record { near = rw is (part_of w x c.requires.total.some c.requires.abs).near; less = remainder_lt x w c.requires.total.some; parts = eq_plus x (pos w *ℤ c.floor_of-q.result) (pos (remainder x w)) whole } in
     let s = sized in zfits (search zlow depth 14) (omega (arith, zin))
 
 pub returns : goal.returns
 returns c =
     let is : c.floor_of-q.result ≡ floor c.args.x c.args.w = c.floor_of-q.ensures ∙ ap (λ (z : ℤ). floor z c.args.w) {x = W32 c.args.x} (zeq (search zlin depth 14) (omega (arith, zin))) in
     let whole : c.args.x ≡ pos c.args.w *ℤ c.floor_of-q.result +ℤ pos (remainder c.args.x c.args.w) = rw is (div_rem c.args.x c.args.w c.requires.total.some) in
-    let sized : Sized c.args.x (pos c.args.w *ℤ c.floor_of-q.result) c.floor_of-q.result c.args.w (remainder c.args.x c.args.w) = let x = c.args.x in let w = c.args.w in record { near = rw is (part_of w x c.requires.total.some c.requires.abs).near; less = remainder_lt x w c.requires.total.some; parts = eq_plus x (pos w *ℤ c.floor_of-q.result) (pos (remainder x w)) whole; } in
+    let sized : Sized c.args.x (pos c.args.w *ℤ c.floor_of-q.result) c.floor_of-q.result c.args.w (remainder c.args.x c.args.w) = let x = c.args.x in let w = c.args.w in record { near = rw is (part_of w x c.requires.total.some c.requires.abs).near; less = remainder_lt x w c.requires.total.some; parts = eq_plus x (pos w *ℤ c.floor_of-q.result) (pos (remainder x w)) whole } in
     let s = sized in record {
-  floor_is = zeq (search zlow depth 14) (omega (arith, zin)) ∙ is;
-  rest_is = zeq (search zlow depth 14) (omega (arith, zin));
-}
+      floor_is = zeq (search zlow depth 14) (omega (arith, zin)) ∙ is;
+      rest_is = zeq (search zlow depth 14) (omega (arith, zin));
+    }

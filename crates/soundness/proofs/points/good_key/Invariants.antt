@@ -1,10 +1,9 @@
 -- The loop has passed the coordinates before j: each is good, and their sum so far is small.
 use mathlib.Core.Path.{◌≡◌}
 use mathlib.Core.Bool.{true}
-use Prim.Native.Nat.{◌*◌, ◌≤◌, ◌-◌}
+use Prim.Native.Nat.{◌*◌, ◌≤◌}
 use lib.ListN.{length}
 use Rattle.whole.specs.Size.{Abs≤}
-use Rattle.whole.specs.Floor.{remainder}
 use Rattle.whole.specs.Sum.{sum, all}
 use Rattle.whole.specs.Lists.{at}
 use Rattle.lattice.specs.Limits.{farthest_point}

@@ -1,7 +1,7 @@
 use borrow.Author.Rules.{rules}
 -- The part that is lent is the key of point i; its pair stands at 2·i.
 use native.Mathlib.Nat.{le_refl}
-use mathlib.Core.Path.{◌≡◌, ap, ap₂, sym, ◌∙◌}
+use mathlib.Core.Path.{◌≡◌, ap₂, sym, ◌∙◌}
 use Prim.Native.Nat.{suc, ◌+◌, ◌-◌, ◌*◌, ◌≤◌}
 use lib.ListN.{length, take, drop}
 use borrow.Author.Tests.{not-true, not-false}

@@ -2,8 +2,8 @@ use borrow.Author.Rules.{rules}
 use native.Mathlib.Omega.{arith}
 use mathlib.Core.Path.{◌≡◌, refl, ap, sym, ◌∙◌}
 use mathlib.Core.Bool.{true}
-use Prim.Native.Nat.{ℕ, ◌+◌, ◌*◌, ◌-◌}
-use lib.IntN.{ℤ, pos, ◌+ℤ◌}
+use Prim.Native.Nat.{ℕ, ◌+◌, ◌*◌}
+use lib.IntN.{ℤ, pos}
 use mir.Syntax.{w64}
 use mir.Val.{of_z}
 use mir.Facts.{of_z-to_z}
@@ -11,7 +11,7 @@ use Rattle.whole.specs.Size.{Within}
 use Rattle.whole.specs.Sum.{sum, all}
 use Rattle.whole.specs.Lists.{at}
 use Rattle.whole.proofs.Parts.{zin}
-use Rattle.whole.proofs.Signed.{zlin, zeq, zfits, eq_plus, W64}
+use Rattle.whole.proofs.Signed.{zlin, zeq, zfits, eq_plus}
 use Rattle.whole.proofs.Size.{zabs}
 use Rattle.whole.proofs.Sum.{sum_more}
 use Rattle.whole.proofs.Tests.{all_more}

@@ -1,9 +1,7 @@
 -- The loop has passed the points before i: each is good and no heavier than all should be, and so much is their mass.
 use mathlib.Core.Path.{◌≡◌}
 use mathlib.Core.Bool.{true}
-use Prim.Native.Nat.{◌*◌, ◌≤◌, ◌-◌}
-use mir.Syntax.{w64}
-use mir.Val.{of_z}
+use Prim.Native.Nat.{◌*◌, ◌≤◌}
 use Rattle.whole.specs.Size.{Abs≤}
 use Rattle.whole.specs.Sum.{sum, all}
 use Rattle.whole.specs.Lists.{at}

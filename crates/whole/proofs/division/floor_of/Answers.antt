@@ -1,5 +1,4 @@
 -- The machine's quotient, less 1 where its remainder is negative, is the floor.
-use borrow.Author.Rules.{rules}
 use mathlib.Core.Path.{◌≡◌, ◌∙◌}
 use native.Mathlib.Omega.{arith}
 use lib.IntN.{ℤ, pos}
@@ -7,7 +6,7 @@ use lib.Signed.{rem_z, ◌≤ℤ◌}
 use mir.Val.{to_z}
 use mir.Syntax.{w32}
 use Rattle.whole.proofs.Parts.{zin, zout}
-use Rattle.whole.proofs.Signed.{zlow, zeq, zfits, W32, Sizes, sizes}
+use Rattle.whole.proofs.Signed.{zlow, zeq, W32, Sizes, sizes}
 use Rattle.whole.proofs.Floor.{FloorNeg, floor_neg, floor_pos}
 use Rattle.whole.proofs.division.floor_of.Goals as goal
 use Rattle.whole.proofs.division.floor_of.Goals.{Start}

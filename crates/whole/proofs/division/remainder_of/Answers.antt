@@ -1,5 +1,4 @@
 -- The machine's remainder, plus the divisor where it is negative, is the remainder that is never negative.
-use borrow.Author.Rules.{rules}
 use mathlib.Core.Path.{◌≡◌, ap, ◌∙◌}
 use native.Mathlib.Omega.{arith}
 use lib.IntN.{ℤ, pos, nat_abs, ◌+ℤ◌}
@@ -7,7 +6,7 @@ use lib.Signed.{rem_z, ◌<ℤ◌, ◌≤ℤ◌}
 use mir.Val.{to_z}
 use mir.Syntax.{w32}
 use Rattle.whole.proofs.Parts.{zin, zout}
-use Rattle.whole.proofs.Signed.{zlow, zeq, zfits, zcast, W32, Sizes, sizes}
+use Rattle.whole.proofs.Signed.{zlow, zeq, W32, Sizes, sizes}
 use Rattle.whole.proofs.Floor.{floor_neg, floor_pos}
 use Rattle.whole.proofs.division.remainder_of.Goals as goal
 use Rattle.whole.proofs.division.remainder_of.Goals.{Start}

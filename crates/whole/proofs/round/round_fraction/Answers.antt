@@ -3,10 +3,9 @@ use native.Mathlib.Omega.{arith}
 use mathlib.Core.Path.{◌∙◌}
 use lib.IntN.{pos, ◌-ℤ◌, ◌+ℤ◌}
 use lib.Signed.{quot_z, ◌≤ℤ◌}
-use mir.Syntax.{w64}
 use Rattle.whole.specs.Size.{Abs≤}
 use Rattle.whole.proofs.Parts.{zin}
-use Rattle.whole.proofs.Signed.{zlin, zle, zeq, zfits, t<, t≥, W64, nz}
+use Rattle.whole.proofs.Signed.{zlin, zle, zeq, t<, t≥, W64}
 use Rattle.whole.proofs.Size.{zabs}
 use Rattle.whole.proofs.Floor.{quot_abs}
 use Rattle.whole.proofs.Rounding.{rounded_pos, rounded_neg}
