@@ -230,6 +230,16 @@ every_call_one = record {
       (λ o. refl)
       (λ o. refl)
       (reports_one a.0.now a.1.0.now)) (λ κs a o p. p) (λ κs a. tt);
+  reader_at = answering (λ κs a. record {
+    outcome = (record { log = a.0; at = a.1.0 }, (tt, (tt, tt)));
+    allowed = (refl, refl);
+    only = λ o u p q. λ i. (record { log = (p.0 ∙ sym q.0) i; at = (p.1 ∙ sym q.1) i }, (tt, (tt, tt)));
+  }) (λ κs a o p. p) (λ κs a. tt);
+  next = answering (λ κs a. record {
+    outcome = (here a.0.now, (moved_on a.0.now, tt));
+    allowed = (refl, refl);
+    only = λ o u p q. λ i. ((p.0 ∙ sym q.0) i, ((p.1 ∙ sym q.1) i, tt));
+  }) (λ κs a o p. p) (λ κs a. tt);
   read_at = answering (λ κs a. record { outcome = (found_at a.0.now a.1.0, (tt, (tt, tt))); allowed = refl; only = λ o u p q. λ i. ((p ∙ sym q) i, (tt, (tt, tt))) }) (λ κs a o p. p) (λ κs a. tt);
 }
 

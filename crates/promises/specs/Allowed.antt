@@ -1,5 +1,5 @@
--- What it is that a contract allows one outcome, of the contract itself, as the checker reads it off the code that it proves. Of a function `Reads.Post` is what has to be shown for its
--- `ensures`, `Reads.Learnt` what a caller learns from it, and `Reads.Asked` what a caller has to show for its `requires`. For a clause that is a plain fact, as all are here, these are that fact.
+-- What it is that a contract allows one outcome, of the contract itself, as the checker reads it off the code that it proves. Of a function `F` of a crate `c`, `Rattle.c.specs.contracts.F` has
+-- its parameters and its result, as `ended`, and `Rattle.c.proofs.F.Reads` its clauses as they are read: `Reads.Post` is what has to be shown for its `ensures`, `Reads.Learnt` what a caller learns from it, and `Reads.Asked` what a caller has to show for its `requires`. For a clause that is a plain fact, as all are here, these are that fact.
 use Rattle.std.specs.Prelude.{◌≡◌}
 use contract.Lifetimes.{Lfts}
 use denote.Triple.Entry.{Args, Res}

@@ -19,48 +19,68 @@ use Rattle.reader.specs.declared.Reader.{Reader}
 use Rattle.reader.specs.declared.items.Item.{Item}
 use Rattle.reader.specs.Reader.{here, moved_on}
 use Rattle.promises.specs.Allowed.{One, Answering}
-use Rattle.book.proofs.fresh.fresh as fresh_call
-use Rattle.enter.proofs.enter as enter_call
-use Rattle.merge.proofs.merge as merge_call
-use Rattle.withdraw.proofs.withdraw as withdraw_call
-use Rattle.listing.proofs.list as list_call
-use Rattle.filter.proofs.filter as filter_call
-use Rattle.load.proofs.load as load_call
-use Rattle.report.proofs.report as report_call
-use Rattle.export.proofs.vimrothi_fresh as fresh_for_C
-use Rattle.export.proofs.vimrothi_enter as enter_for_C
-use Rattle.export.proofs.vimrothi_merge as merge_for_C
-use Rattle.export.proofs.vimrothi_withdraw as withdraw_for_C
-use Rattle.export.proofs.vimrothi_list as list_for_C
-use Rattle.export.proofs.vimrothi_filter as filter_for_C
-use Rattle.export.proofs.vimrothi_load as load_for_C
-use Rattle.export.proofs.vimrothi_report as report_for_C
+use Rattle.book.specs.contracts.fresh.fresh as fresh_call
+use Rattle.book.proofs.fresh.fresh.Reads as fresh_call_reads
+use Rattle.enter.specs.contracts.enter as enter_call
+use Rattle.enter.proofs.enter.Reads as enter_call_reads
+use Rattle.merge.specs.contracts.merge as merge_call
+use Rattle.merge.proofs.merge.Reads as merge_call_reads
+use Rattle.withdraw.specs.contracts.withdraw as withdraw_call
+use Rattle.withdraw.proofs.withdraw.Reads as withdraw_call_reads
+use Rattle.listing.specs.contracts.list as list_call
+use Rattle.listing.proofs.list.Reads as list_call_reads
+use Rattle.filter.specs.contracts.filter as filter_call
+use Rattle.filter.proofs.filter.Reads as filter_call_reads
+use Rattle.load.specs.contracts.load as load_call
+use Rattle.load.proofs.load.Reads as load_call_reads
+use Rattle.report.specs.contracts.report as report_call
+use Rattle.report.proofs.report.Reads as report_call_reads
+use Rattle.export.specs.contracts.vimrothi_fresh as fresh_for_C
+use Rattle.export.proofs.vimrothi_fresh.Reads as fresh_for_C_reads
+use Rattle.export.specs.contracts.vimrothi_enter as enter_for_C
+use Rattle.export.proofs.vimrothi_enter.Reads as enter_for_C_reads
+use Rattle.export.specs.contracts.vimrothi_merge as merge_for_C
+use Rattle.export.proofs.vimrothi_merge.Reads as merge_for_C_reads
+use Rattle.export.specs.contracts.vimrothi_withdraw as withdraw_for_C
+use Rattle.export.proofs.vimrothi_withdraw.Reads as withdraw_for_C_reads
+use Rattle.export.specs.contracts.vimrothi_list as list_for_C
+use Rattle.export.proofs.vimrothi_list.Reads as list_for_C_reads
+use Rattle.export.specs.contracts.vimrothi_filter as filter_for_C
+use Rattle.export.proofs.vimrothi_filter.Reads as filter_for_C_reads
+use Rattle.export.specs.contracts.vimrothi_load as load_for_C
+use Rattle.export.proofs.vimrothi_load.Reads as load_for_C_reads
+use Rattle.export.specs.contracts.vimrothi_report as report_for_C
+use Rattle.export.proofs.vimrothi_report.Reads as report_for_C_reads
 use Rattle.reader.specs.contracts.reader_at as reader_at_call
+use Rattle.reader.proofs.reader_at.Reads as reader_at_call_reads
 use Rattle.reader.specs.contracts.next as next_call
-use Rattle.reader.proofs.read_at as read_at_call
+use Rattle.reader.proofs.next.Reads as next_call_reads
+use Rattle.reader.specs.contracts.read_at as read_at_call
+use Rattle.reader.proofs.read_at.Reads as read_at_call_reads
 
--- Statement: each call, each function for C, and `read_at` asks nothing, and its contract allows one outcome.
+-- Statement: each call, each function for C, and each function of the reader asks nothing, and its contract allows one outcome.
 pub record EveryCallOne : Type 0 where
-  pub fresh : Answering fresh_call.ended fresh_call.Reads.Post fresh_call.Reads.Learnt fresh_call.Reads.Asked
-  pub enter : Answering enter_call.ended enter_call.Reads.Post enter_call.Reads.Learnt enter_call.Reads.Asked
-  pub merge : Answering merge_call.ended merge_call.Reads.Post merge_call.Reads.Learnt merge_call.Reads.Asked
-  pub withdraw : Answering withdraw_call.ended withdraw_call.Reads.Post withdraw_call.Reads.Learnt withdraw_call.Reads.Asked
-  pub list : Answering list_call.ended list_call.Reads.Post list_call.Reads.Learnt list_call.Reads.Asked
-  pub filter : Answering filter_call.ended filter_call.Reads.Post filter_call.Reads.Learnt filter_call.Reads.Asked
-  pub load : Answering load_call.ended load_call.Reads.Post load_call.Reads.Learnt load_call.Reads.Asked
-  pub report : Answering report_call.ended report_call.Reads.Post report_call.Reads.Learnt report_call.Reads.Asked
-  pub vimrothi_fresh : Answering fresh_for_C.ended fresh_for_C.Reads.Post fresh_for_C.Reads.Learnt fresh_for_C.Reads.Asked
-  pub vimrothi_enter : Answering enter_for_C.ended enter_for_C.Reads.Post enter_for_C.Reads.Learnt enter_for_C.Reads.Asked
-  pub vimrothi_merge : Answering merge_for_C.ended merge_for_C.Reads.Post merge_for_C.Reads.Learnt merge_for_C.Reads.Asked
-  pub vimrothi_withdraw : Answering withdraw_for_C.ended withdraw_for_C.Reads.Post withdraw_for_C.Reads.Learnt withdraw_for_C.Reads.Asked
-  pub vimrothi_list : Answering list_for_C.ended list_for_C.Reads.Post list_for_C.Reads.Learnt list_for_C.Reads.Asked
-  pub vimrothi_filter : Answering filter_for_C.ended filter_for_C.Reads.Post filter_for_C.Reads.Learnt filter_for_C.Reads.Asked
-  pub vimrothi_load : Answering load_for_C.ended load_for_C.Reads.Post load_for_C.Reads.Learnt load_for_C.Reads.Asked
-  pub vimrothi_report : Answering report_for_C.ended report_for_C.Reads.Post report_for_C.Reads.Learnt report_for_C.Reads.Asked
-  pub read_at : Answering read_at_call.ended read_at_call.Reads.Post read_at_call.Reads.Learnt read_at_call.Reads.Asked
+  pub fresh : Answering fresh_call.ended fresh_call_reads.Post fresh_call_reads.Learnt fresh_call_reads.Asked
+  pub enter : Answering enter_call.ended enter_call_reads.Post enter_call_reads.Learnt enter_call_reads.Asked
+  pub merge : Answering merge_call.ended merge_call_reads.Post merge_call_reads.Learnt merge_call_reads.Asked
+  pub withdraw : Answering withdraw_call.ended withdraw_call_reads.Post withdraw_call_reads.Learnt withdraw_call_reads.Asked
+  pub list : Answering list_call.ended list_call_reads.Post list_call_reads.Learnt list_call_reads.Asked
+  pub filter : Answering filter_call.ended filter_call_reads.Post filter_call_reads.Learnt filter_call_reads.Asked
+  pub load : Answering load_call.ended load_call_reads.Post load_call_reads.Learnt load_call_reads.Asked
+  pub report : Answering report_call.ended report_call_reads.Post report_call_reads.Learnt report_call_reads.Asked
+  pub vimrothi_fresh : Answering fresh_for_C.ended fresh_for_C_reads.Post fresh_for_C_reads.Learnt fresh_for_C_reads.Asked
+  pub vimrothi_enter : Answering enter_for_C.ended enter_for_C_reads.Post enter_for_C_reads.Learnt enter_for_C_reads.Asked
+  pub vimrothi_merge : Answering merge_for_C.ended merge_for_C_reads.Post merge_for_C_reads.Learnt merge_for_C_reads.Asked
+  pub vimrothi_withdraw : Answering withdraw_for_C.ended withdraw_for_C_reads.Post withdraw_for_C_reads.Learnt withdraw_for_C_reads.Asked
+  pub vimrothi_list : Answering list_for_C.ended list_for_C_reads.Post list_for_C_reads.Learnt list_for_C_reads.Asked
+  pub vimrothi_filter : Answering filter_for_C.ended filter_for_C_reads.Post filter_for_C_reads.Learnt filter_for_C_reads.Asked
+  pub vimrothi_load : Answering load_for_C.ended load_for_C_reads.Post load_for_C_reads.Learnt load_for_C_reads.Asked
+  pub vimrothi_report : Answering report_for_C.ended report_for_C_reads.Post report_for_C_reads.Learnt report_for_C_reads.Asked
+  pub reader_at : Answering reader_at_call.ended reader_at_call_reads.Post reader_at_call_reads.Learnt reader_at_call_reads.Asked
+  pub next : Answering next_call.ended next_call_reads.Post next_call_reads.Learnt next_call_reads.Asked
+  pub read_at : Answering read_at_call.ended read_at_call_reads.Post read_at_call_reads.Learnt read_at_call_reads.Asked
 
--- `reader_at` and `next` have a `Reader`, which holds a reference, and the checker reads no contract off such a function. What each allows is told here: a reader is made of a log and an
--- offset; it answers the item here, and is moved on.
+-- What `reader_at` and `next` allow, told here too, apart from how the checker reads it: a reader is made of a log and an offset; it answers the item here, and is moved on.
 abbrev pub ReaderAtAllows : Bor (List ℕ) → ℕ → Reader → Type 0
 ReaderAtAllows log at r = (r.log ≡ log) × (r.at ≡ at)
 
@@ -75,13 +95,13 @@ pub record ReaderOne : Type 0 where
 -- Statement: the `ensures` of `reader_at` and of `next` is the fact told above and the `requires` is nothing, in every model of the logic in which the code is proved.
 pub record ReaderSays : Type 3 where
   pub reader_at_says : (w : World) (κs : Lfts 1) (a : Args reader_at_call.signature κs) (r : Res reader_at_call.signature κs) (e : AtExit reader_at_call.ended κs)
-      → (reader_at_call.clauses w.𝓛 w.𝓜.mem w.𝓡.run κs a).ensures tt r e ≡ fact w.𝓤 (ReaderAtAllows a.0 a.1.0 r)
+      → (reader_at_call.clauses w.𝓛 w.𝓜.mem w.𝓡.returns κs a).ensures tt r e ≡ fact w.𝓤 (ReaderAtAllows a.0 a.1.0 r)
   pub next_says : (w : World) (κs : Lfts 2) (a : Args next_call.signature κs) (r : Res next_call.signature κs) (e : AtExit next_call.ended κs)
-      → (next_call.clauses w.𝓛 w.𝓜.mem w.𝓡.run κs a).ensures tt r e ≡ fact w.𝓤 (NextAllows a.0.now (r, e.0.now))
+      → (next_call.clauses w.𝓛 w.𝓜.mem w.𝓡.returns κs a).ensures tt r e ≡ fact w.𝓤 (NextAllows a.0.now (r, e.0.now))
   pub reader_at_asks : (w : World) (κs : Lfts 1) (a : Args reader_at_call.signature κs)
-      → (reader_at_call.clauses w.𝓛 w.𝓜.mem w.𝓡.run κs a).requires tt ≡ emp w.𝓤
+      → (reader_at_call.clauses w.𝓛 w.𝓜.mem w.𝓡.returns κs a).requires tt ≡ emp w.𝓤
   pub next_asks : (w : World) (κs : Lfts 2) (a : Args next_call.signature κs)
-      → (next_call.clauses w.𝓛 w.𝓜.mem w.𝓡.run κs a).requires tt ≡ emp w.𝓤
+      → (next_call.clauses w.𝓛 w.𝓜.mem w.𝓡.returns κs a).requires tt ≡ emp w.𝓤
 
 -- Statement: "A call refused as a whole hands back the head it was given and changes no lent memory. A refused fresh call hands back d, S and C as given,
 -- with n and m 0." Here of the counts n and m and of memory; that d, S, C and B come back as given is in the contracts, by `AnswersBook`. Of load it is `LoadRefuses`.

@@ -1,133 +1,105 @@
 -- Functions that are `pub` only because another crate of the library calls them; docs/INNER.md lists them with what they ask.
 use Rattle.promises.specs.Allowed.{OnlyOutcome}
-use Rattle.whole.proofs.division.remainder_of
-use Rattle.whole.proofs.division.floor_of
-use Rattle.whole.proofs.round.round_fraction
-use Rattle.whole.proofs.words.word_of
-use Rattle.whole.proofs.words.size_of
-use Rattle.whole.proofs.words.multiply
-use Rattle.lattice.proofs.position.judge
-use Rattle.simplex.proofs.enclose
-use Rattle.index.proofs.home.home_of
-use Rattle.index.proofs.keys.same_key
-use Rattle.index.proofs.search.search
-use Rattle.table.proofs.settings.in_range
-use Rattle.table.proofs.settings.lengths_fit
-use Rattle.table.proofs.with_counts
-use Rattle.table.proofs.clear.clear_keys
-use Rattle.table.proofs.clear.clear_sums
-use Rattle.table.proofs.clear.clear_index
-use Rattle.table.proofs.reading.own_refusal
-use Rattle.book.proofs.settings.in_range as book_in_range
-use Rattle.book.proofs.settings.lengths_fit as book_lengths_fit
-use Rattle.book.proofs.writing.write_at
-use Rattle.book.proofs.writing.put_entry
-use Rattle.soundness.proofs.is_sound
-use Rattle.numbers.proofs.place_of
-use Rattle.numbers.proofs.is_held
-use Rattle.numbers.proofs.add_number
-use Rattle.numbers.proofs.index_book
-use Rattle.numbers.proofs.numbers_apart
-use Rattle.numbers.proofs.none_met
-use Rattle.numbers.proofs.lowest_from
-use Rattle.pour.proofs.add_row
-use Rattle.pour.proofs.is_new
-use Rattle.pour.proofs.pair.set_pair
-use Rattle.pour.proofs.pair.raise_pair
-use Rattle.pour.proofs.stretch.put_key
-use Rattle.pour.proofs.stretch.store_key
-use Rattle.shares.proofs.new_in_slots
-use Rattle.shares.proofs.times
-use Rattle.shares.proofs.pour_shares
-use Rattle.spread.proofs.spread_reading
-use Rattle.spread.proofs.sums_are_theirs
-use Rattle.carried.proofs.is_carried
-use Rattle.carried.proofs.refusal_of
-use Rattle.enter.proofs.reading.take
-use Rattle.enter.proofs.reading.enter_one
-use Rattle.listing.proofs.fill.fill
-use Rattle.blur.proofs.pair.pair_of
-use Rattle.blur.proofs.blur
-use Rattle.filter.proofs.reply.reply_at
-use Rattle.filter.proofs.reply.reply_all
-use Rattle.reader.proofs.kinds.row_of
-use Rattle.reader.proofs.kinds.kind_of
-use Rattle.reader.proofs.kinds.fours_of
-use Rattle.reader.proofs.kinds.body_length
-use Rattle.reader.proofs.kinds.is_listed
-use Rattle.reader.proofs.kinds.is_placed
-use Rattle.reader.proofs.kinds.of_dimension
-use Rattle.reader.proofs.settings.settings_of
-use Rattle.reader.proofs.settings.dimension_of
-use Rattle.reader.proofs.items.found_at
-use Rattle.reader.proofs.items.number_of
-use Rattle.reader.proofs.content.content_at
-use Rattle.reader.proofs.content.number_meant
-use Rattle.text.proofs.put_line
+use Rattle.whole.specs.contracts as whole_says
+use Rattle.whole.proofs as whole_proofs
+use Rattle.lattice.specs.contracts as lattice_says
+use Rattle.lattice.proofs as lattice_proofs
+use Rattle.simplex.specs.contracts as simplex_says
+use Rattle.simplex.proofs as simplex_proofs
+use Rattle.index.specs.contracts as index_says
+use Rattle.index.proofs as index_proofs
+use Rattle.table.specs.contracts as table_says
+use Rattle.table.proofs as table_proofs
+use Rattle.book.specs.contracts as book_says
+use Rattle.book.proofs as book_proofs
+use Rattle.soundness.specs.contracts as soundness_says
+use Rattle.soundness.proofs as soundness_proofs
+use Rattle.numbers.specs.contracts as numbers_says
+use Rattle.numbers.proofs as numbers_proofs
+use Rattle.pour.specs.contracts as pour_says
+use Rattle.pour.proofs as pour_proofs
+use Rattle.shares.specs.contracts as shares_says
+use Rattle.shares.proofs as shares_proofs
+use Rattle.spread.specs.contracts as spread_says
+use Rattle.spread.proofs as spread_proofs
+use Rattle.carried.specs.contracts as carried_says
+use Rattle.carried.proofs as carried_proofs
+use Rattle.enter.specs.contracts as enter_says
+use Rattle.enter.proofs as enter_proofs
+use Rattle.listing.specs.contracts as listing_says
+use Rattle.listing.proofs as listing_proofs
+use Rattle.blur.specs.contracts as blur_says
+use Rattle.blur.proofs as blur_proofs
+use Rattle.filter.specs.contracts as filter_says
+use Rattle.filter.proofs as filter_proofs
+use Rattle.reader.specs.contracts as reader_says
+use Rattle.reader.proofs as reader_proofs
+use Rattle.text.specs.contracts as text_says
+use Rattle.text.proofs as text_proofs
 
 -- Statement: the contract of each of them allows no second outcome.
 pub record InnerOnly : Type 0 where
-  pub remainder_of_lem : OnlyOutcome remainder_of.ended remainder_of.Reads.Learnt
-  pub floor_of : OnlyOutcome floor_of.ended floor_of.Reads.Learnt
-  pub round_fraction : OnlyOutcome round_fraction.ended round_fraction.Reads.Learnt
-  pub word_of : OnlyOutcome word_of.ended word_of.Reads.Learnt
-  pub size_of : OnlyOutcome size_of.ended size_of.Reads.Learnt
-  pub multiply : OnlyOutcome multiply.ended multiply.Reads.Learnt
-  pub judge : OnlyOutcome judge.ended judge.Reads.Learnt
-  pub enclose : OnlyOutcome enclose.ended enclose.Reads.Learnt
-  pub home_of : OnlyOutcome home_of.ended home_of.Reads.Learnt
-  pub same_key : OnlyOutcome same_key.ended same_key.Reads.Learnt
-  pub search : OnlyOutcome search.ended search.Reads.Learnt
-  pub in_range_lem : OnlyOutcome in_range.ended in_range.Reads.Learnt
-  pub lengths_fit : OnlyOutcome lengths_fit.ended lengths_fit.Reads.Learnt
-  pub with_counts_lem : OnlyOutcome with_counts.ended with_counts.Reads.Learnt
-  pub clear_keys : OnlyOutcome clear_keys.ended clear_keys.Reads.Learnt
-  pub clear_sums : OnlyOutcome clear_sums.ended clear_sums.Reads.Learnt
-  pub clear_index : OnlyOutcome clear_index.ended clear_index.Reads.Learnt
-  pub own_refusal_lem : OnlyOutcome own_refusal.ended own_refusal.Reads.Learnt
-  pub book_range : OnlyOutcome book_in_range.ended book_in_range.Reads.Learnt
-  pub book_lengths : OnlyOutcome book_lengths_fit.ended book_lengths_fit.Reads.Learnt
-  pub write_at : OnlyOutcome write_at.ended write_at.Reads.Learnt
-  pub put_entry : OnlyOutcome put_entry.ended put_entry.Reads.Learnt
-  pub is_sound : OnlyOutcome is_sound.ended is_sound.Reads.Learnt
-  pub place_of_lem : OnlyOutcome place_of.ended place_of.Reads.Learnt
-  pub is_held : OnlyOutcome is_held.ended is_held.Reads.Learnt
-  pub add_number : OnlyOutcome add_number.ended add_number.Reads.Learnt
-  pub index_book : OnlyOutcome index_book.ended index_book.Reads.Learnt
-  pub numbers_apart_lem : OnlyOutcome numbers_apart.ended numbers_apart.Reads.Learnt
-  pub none_met_lem : OnlyOutcome none_met.ended none_met.Reads.Learnt
-  pub lowest_from_lem : OnlyOutcome lowest_from.ended lowest_from.Reads.Learnt
-  pub add_row : OnlyOutcome add_row.ended add_row.Reads.Learnt
-  pub is_new : OnlyOutcome is_new.ended is_new.Reads.Learnt
-  pub set_pair_lem : OnlyOutcome set_pair.ended set_pair.Reads.Learnt
-  pub raise_pair : OnlyOutcome raise_pair.ended raise_pair.Reads.Learnt
-  pub put_key : OnlyOutcome put_key.ended put_key.Reads.Learnt
-  pub store_key : OnlyOutcome store_key.ended store_key.Reads.Learnt
-  pub new_in_slots : OnlyOutcome new_in_slots.ended new_in_slots.Reads.Learnt
-  pub times : OnlyOutcome times.ended times.Reads.Learnt
-  pub pour_shares : OnlyOutcome pour_shares.ended pour_shares.Reads.Learnt
-  pub spread_reading : OnlyOutcome spread_reading.ended spread_reading.Reads.Learnt
-  pub sums_are_theirs : OnlyOutcome sums_are_theirs.ended sums_are_theirs.Reads.Learnt
-  pub is_carried : OnlyOutcome is_carried.ended is_carried.Reads.Learnt
-  pub refusal_of : OnlyOutcome refusal_of.ended refusal_of.Reads.Learnt
-  pub take : OnlyOutcome take.ended take.Reads.Learnt
-  pub enter_one : OnlyOutcome enter_one.ended enter_one.Reads.Learnt
-  pub fill : OnlyOutcome fill.ended fill.Reads.Learnt
-  pub pair_of : OnlyOutcome pair_of.ended pair_of.Reads.Learnt
-  pub blur : OnlyOutcome blur.ended blur.Reads.Learnt
-  pub reply_at : OnlyOutcome reply_at.ended reply_at.Reads.Learnt
-  pub reply_all : OnlyOutcome reply_all.ended reply_all.Reads.Learnt
-  pub row_of_lem : OnlyOutcome row_of.ended row_of.Reads.Learnt
-  pub kind_of_lem : OnlyOutcome kind_of.ended kind_of.Reads.Learnt
-  pub fours_of : OnlyOutcome fours_of.ended fours_of.Reads.Learnt
-  pub body_length_lem : OnlyOutcome body_length.ended body_length.Reads.Learnt
-  pub is_listed_lem : OnlyOutcome is_listed.ended is_listed.Reads.Learnt
-  pub is_placed : OnlyOutcome is_placed.ended is_placed.Reads.Learnt
-  pub of_dimension_lem : OnlyOutcome of_dimension.ended of_dimension.Reads.Learnt
-  pub settings_of_lem : OnlyOutcome settings_of.ended settings_of.Reads.Learnt
-  pub dimension_of : OnlyOutcome dimension_of.ended dimension_of.Reads.Learnt
-  pub found_at_lem : OnlyOutcome found_at.ended found_at.Reads.Learnt
-  pub number_of_lem : OnlyOutcome number_of.ended number_of.Reads.Learnt
-  pub content_at : OnlyOutcome content_at.ended content_at.Reads.Learnt
-  pub number_meant_lem : OnlyOutcome number_meant.ended number_meant.Reads.Learnt
-  pub put_line : OnlyOutcome put_line.ended put_line.Reads.Learnt
+  pub remainder_of : OnlyOutcome whole_says.division.remainder_of.ended whole_proofs.division.remainder_of.Reads.Learnt
+  pub floor_of : OnlyOutcome whole_says.division.floor_of.ended whole_proofs.division.floor_of.Reads.Learnt
+  pub round_fraction : OnlyOutcome whole_says.round.round_fraction.ended whole_proofs.round.round_fraction.Reads.Learnt
+  pub word_of : OnlyOutcome whole_says.words.word_of.ended whole_proofs.words.word_of.Reads.Learnt
+  pub size_of : OnlyOutcome whole_says.words.size_of.ended whole_proofs.words.size_of.Reads.Learnt
+  pub multiply : OnlyOutcome whole_says.words.multiply.ended whole_proofs.words.multiply.Reads.Learnt
+  pub judge : OnlyOutcome lattice_says.position.judge.ended lattice_proofs.position.judge.Reads.Learnt
+  pub enclose : OnlyOutcome simplex_says.enclose.ended simplex_proofs.enclose.Reads.Learnt
+  pub home_of : OnlyOutcome index_says.home.home_of.ended index_proofs.home.home_of.Reads.Learnt
+  pub same_key : OnlyOutcome index_says.keys.same_key.ended index_proofs.keys.same_key.Reads.Learnt
+  pub search : OnlyOutcome index_says.search.search.ended index_proofs.search.search.Reads.Learnt
+  pub in_range : OnlyOutcome table_says.settings.in_range.ended table_proofs.settings.in_range.Reads.Learnt
+  pub lengths_fit : OnlyOutcome table_says.settings.lengths_fit.ended table_proofs.settings.lengths_fit.Reads.Learnt
+  pub with_counts : OnlyOutcome table_says.with_counts.ended table_proofs.with_counts.Reads.Learnt
+  pub clear_keys : OnlyOutcome table_says.clear.clear_keys.ended table_proofs.clear.clear_keys.Reads.Learnt
+  pub clear_sums : OnlyOutcome table_says.clear.clear_sums.ended table_proofs.clear.clear_sums.Reads.Learnt
+  pub clear_index : OnlyOutcome table_says.clear.clear_index.ended table_proofs.clear.clear_index.Reads.Learnt
+  pub own_refusal : OnlyOutcome table_says.reading.own_refusal.ended table_proofs.reading.own_refusal.Reads.Learnt
+  pub book_range : OnlyOutcome book_says.settings.in_range.ended book_proofs.settings.in_range.Reads.Learnt
+  pub book_lengths : OnlyOutcome book_says.settings.lengths_fit.ended book_proofs.settings.lengths_fit.Reads.Learnt
+  pub write_at : OnlyOutcome book_says.writing.write_at.ended book_proofs.writing.write_at.Reads.Learnt
+  pub put_entry : OnlyOutcome book_says.writing.put_entry.ended book_proofs.writing.put_entry.Reads.Learnt
+  pub is_sound : OnlyOutcome soundness_says.is_sound.ended soundness_proofs.is_sound.Reads.Learnt
+  pub place_of : OnlyOutcome numbers_says.place_of.ended numbers_proofs.place_of.Reads.Learnt
+  pub is_held : OnlyOutcome numbers_says.is_held.ended numbers_proofs.is_held.Reads.Learnt
+  pub add_number : OnlyOutcome numbers_says.add_number.ended numbers_proofs.add_number.Reads.Learnt
+  pub index_book : OnlyOutcome numbers_says.index_book.ended numbers_proofs.index_book.Reads.Learnt
+  pub numbers_apart : OnlyOutcome numbers_says.numbers_apart.ended numbers_proofs.numbers_apart.Reads.Learnt
+  pub none_met : OnlyOutcome numbers_says.none_met.ended numbers_proofs.none_met.Reads.Learnt
+  pub lowest_from : OnlyOutcome numbers_says.lowest_from.ended numbers_proofs.lowest_from.Reads.Learnt
+  pub add_row : OnlyOutcome pour_says.add_row.ended pour_proofs.add_row.Reads.Learnt
+  pub is_new : OnlyOutcome pour_says.is_new.ended pour_proofs.is_new.Reads.Learnt
+  pub set_pair : OnlyOutcome pour_says.pair.set_pair.ended pour_proofs.pair.set_pair.Reads.Learnt
+  pub raise_pair : OnlyOutcome pour_says.pair.raise_pair.ended pour_proofs.pair.raise_pair.Reads.Learnt
+  pub put_key : OnlyOutcome pour_says.stretch.put_key.ended pour_proofs.stretch.put_key.Reads.Learnt
+  pub store_key : OnlyOutcome pour_says.stretch.store_key.ended pour_proofs.stretch.store_key.Reads.Learnt
+  pub new_in_slots : OnlyOutcome shares_says.new_in_slots.ended shares_proofs.new_in_slots.Reads.Learnt
+  pub times : OnlyOutcome shares_says.times.ended shares_proofs.times.Reads.Learnt
+  pub pour_shares : OnlyOutcome shares_says.pour_shares.ended shares_proofs.pour_shares.Reads.Learnt
+  pub spread_reading : OnlyOutcome spread_says.spread_reading.ended spread_proofs.spread_reading.Reads.Learnt
+  pub sums_are_theirs : OnlyOutcome spread_says.sums_are_theirs.ended spread_proofs.sums_are_theirs.Reads.Learnt
+  pub is_carried : OnlyOutcome carried_says.is_carried.ended carried_proofs.is_carried.Reads.Learnt
+  pub refusal_of : OnlyOutcome carried_says.refusal_of.ended carried_proofs.refusal_of.Reads.Learnt
+  pub take : OnlyOutcome enter_says.reading.take.ended enter_proofs.reading.take.Reads.Learnt
+  pub enter_one : OnlyOutcome enter_says.reading.enter_one.ended enter_proofs.reading.enter_one.Reads.Learnt
+  pub fill : OnlyOutcome listing_says.fill.fill.ended listing_proofs.fill.fill.Reads.Learnt
+  pub pair_of : OnlyOutcome blur_says.pair.pair_of.ended blur_proofs.pair.pair_of.Reads.Learnt
+  pub blur : OnlyOutcome blur_says.blur.ended blur_proofs.blur.Reads.Learnt
+  pub reply_at : OnlyOutcome filter_says.reply.reply_at.ended filter_proofs.reply.reply_at.Reads.Learnt
+  pub reply_all : OnlyOutcome filter_says.reply.reply_all.ended filter_proofs.reply.reply_all.Reads.Learnt
+  pub row_of : OnlyOutcome reader_says.kinds.row_of.ended reader_proofs.kinds.row_of.Reads.Learnt
+  pub kind_of : OnlyOutcome reader_says.kinds.kind_of.ended reader_proofs.kinds.kind_of.Reads.Learnt
+  pub fours_of : OnlyOutcome reader_says.kinds.fours_of.ended reader_proofs.kinds.fours_of.Reads.Learnt
+  pub body_length : OnlyOutcome reader_says.kinds.body_length.ended reader_proofs.kinds.body_length.Reads.Learnt
+  pub is_listed : OnlyOutcome reader_says.kinds.is_listed.ended reader_proofs.kinds.is_listed.Reads.Learnt
+  pub is_placed : OnlyOutcome reader_says.kinds.is_placed.ended reader_proofs.kinds.is_placed.Reads.Learnt
+  pub of_dimension : OnlyOutcome reader_says.kinds.of_dimension.ended reader_proofs.kinds.of_dimension.Reads.Learnt
+  pub settings_of : OnlyOutcome reader_says.settings.settings_of.ended reader_proofs.settings.settings_of.Reads.Learnt
+  pub dimension_of : OnlyOutcome reader_says.settings.dimension_of.ended reader_proofs.settings.dimension_of.Reads.Learnt
+  pub found_at : OnlyOutcome reader_says.items.found_at.ended reader_proofs.items.found_at.Reads.Learnt
+  pub number_of : OnlyOutcome reader_says.items.number_of.ended reader_proofs.items.number_of.Reads.Learnt
+  pub content_at : OnlyOutcome reader_says.content.content_at.ended reader_proofs.content.content_at.Reads.Learnt
+  pub number_meant : OnlyOutcome reader_says.content.number_meant.ended reader_proofs.content.number_meant.Reads.Learnt
+  pub put_line : OnlyOutcome text_says.put_line.ended text_proofs.put_line.Reads.Learnt
