@@ -89,6 +89,7 @@ extern "C" {
 #define VIMROTHI_OTHER_DIMENSION 14      /* log: item of another dimension than the settings */
 #define VIMROTHI_BODY_CUT 15             /* log: body cut short */
 #define VIMROTHI_PROGRAM_LIMIT 16        /* report: log over 16,384 bytes, or C over 512 */
+#define VIMROTHI_RAW_OUT_OF_RANGE 17     /* raw number or multiplier out of range: no call tells it yet */
 #define VIMROTHI_NUMBER_NOT_HELD 19      /* withdraw: number not held */
 #define VIMROTHI_NUMBER_HELD 20          /* number held already */
 
