@@ -65,7 +65,7 @@ pub const BODY_CUT: u8 = 15;
 /// Program: log over 16,384 bytes, or C over 512.
 pub const PROGRAM_LIMIT: u8 = 16;
 
-/// Raw number or multiplier out of range: no call tells it yet.
+/// Raw number or multiplier out of range. No call tells it yet, so it has no [`words`].
 pub const RAW_OUT_OF_RANGE: u8 = 17;
 
 /// Withdraw: number not held.
@@ -105,7 +105,6 @@ pub fn words(number: u8) -> &'static str {
         OTHER_DIMENSION => "log: item of another dimension than the settings",
         BODY_CUT => "log: body cut short",
         PROGRAM_LIMIT => "program: log over 16,384 bytes, or C over 512",
-        RAW_OUT_OF_RANGE => "raw number or multiplier out of range",
         NUMBER_NOT_HELD => "number not held",
         NUMBER_HELD => "number held already",
         _ => "not a refusal number",
