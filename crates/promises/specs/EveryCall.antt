@@ -58,7 +58,7 @@ use Rattle.reader.proofs.next.Reads as next_call_reads
 use Rattle.reader.specs.contracts.read_at as read_at_call
 use Rattle.reader.proofs.read_at.Reads as read_at_call_reads
 
--- Statement: each call, each function for C, and each function of the reader asks nothing, and its contract allows one outcome.
+-- Statement: each call, each function of `export`, which the one of its name for C calls with the same clauses, and each function of the reader asks nothing, and its contract allows one outcome.
 pub record EveryCallOne : Type 0 where
   pub fresh : Answering fresh_call.ended fresh_call_reads.Post fresh_call_reads.Learnt fresh_call_reads.Asked
   pub enter : Answering enter_call.ended enter_call_reads.Post enter_call_reads.Learnt enter_call_reads.Asked

@@ -1,5 +1,4 @@
-use Rattle.std.proofs.Common.{◌≡◌, ◌<◌, length, refl, arith}
-use Rattle.index.specs.Search.{entry_at}
+use Rattle.std.proofs.Common.{◌<◌, length, refl, arith}
 use Rattle.index.proofs.Hash.{home_lt}
 use Rattle.index.proofs.Ring.{next_lt}
 use Rattle.index.proofs.Steps.{starts, ends, finds, goes_on, falls}
@@ -18,23 +17,21 @@ loop-e-init c =
 pub loop-e-smaller : goal.loop-e-smaller
 loop-e-smaller c =
     let l = c.loop-e in
-    let used : entry_at c.args.index.now l.at ≡ 0 → ⊥ = λ z. let h = c.if-e-eq0.false in omega arith in
     let inside : c.requires.hole < length c.args.index.now = omega (arith, c.requires.places, c.requires.hole_inside) in
     rw c.next_place-at.ensures
     (falls c.args.keys.now c.args.index.now c.args.key.now (length c.args.index.now) c.requires.hole inside c.requires.hole_empty
-    l.at _ l.invariant.0 used (c.requires.named l.at) c.same_key.ensures c.if-same_key.false)
+    l.at _ l.invariant.0 (λ z. let h = c.if-e-eq0.false in omega arith) (c.requires.named l.at) c.same_key.ensures c.if-same_key.false)
 
 pub loop-e-preserved : goal.loop-e-preserved
 loop-e-preserved c =
     let l = c.loop-e in
-    let used : entry_at c.args.index.now l.at ≡ 0 → ⊥ = λ z. let h = c.if-e-eq0.false in omega arith in
     let inside : c.requires.hole < length c.args.index.now = omega (arith, c.requires.places, c.requires.hole_inside) in
     rw c.next_place-at.ensures (
       next_lt _ l.at l.invariant.0,
       refl,
       refl,
       goes_on c.args.keys.now c.args.index.now c.args.key.now (length c.args.index.now) c.requires.hole inside c.requires.hole_empty
-          l.at _ l.invariant.0 used (c.requires.named l.at) c.same_key.ensures c.if-same_key.false l.invariant.3,
+          l.at _ l.invariant.0 (λ z. let h = c.if-e-eq0.false in omega arith) (c.requires.named l.at) c.same_key.ensures c.if-same_key.false l.invariant.3,
     )
 
 pub returns-then-e-eq0 : goal.returns-then-e-eq0
@@ -45,8 +42,7 @@ returns-then-e-eq0 c =
 pub returns-then-same_key : goal.returns-then-same_key
 returns-then-same_key c =
     let l = c.loop-e in
-    let used : entry_at c.args.index.now l.at ≡ 0 → ⊥ = λ z. let h = c.if-e-eq0.false in omega arith in
     finds c.args.keys.now c.args.index.now c.args.key.now (length c.args.index.now)
-    l.at _ used (c.requires.named l.at) c.same_key.ensures c.if-same_key.true l.invariant.3
+    l.at _ (λ z. let h = c.if-e-eq0.false in omega arith) (c.requires.named l.at) c.same_key.ensures c.if-same_key.true l.invariant.3
 
 -- TODO open, and no old answer: index::keys::same_key

@@ -81,6 +81,6 @@ returns c =
     let points : ℕ = c.args.head.points + news_in of c.args.keys.now c.args.index.now (tab c.args.source.points (key_at c.args.source.d c.args.source_keys.now)) in
     let same_d : of.d ≡ from.d = c.if-head-source.false in
     let all_new : new ≡ true = passed _ c.none_met.ensures c.if-not-none_met.false-raw in
-    let few_readings : readings ≤ c.args.head.room = omega (arith, c.if-head-source-3.false) in
+    let fits : readings ≤ c.args.head.room = omega (arith, c.if-head-source-3.false) in
     let counted : c.args.head.points + c.new_rows-count.result ≡ points = let a = c.args in ap (λ (k : ℕ). a.head.points + k) (c.new_rows-count.ensures ∙ ap (λ (d : ℕ). news_in of a.keys.now a.index.now (tab a.source.points (key_at d a.source_keys.now))) same_d) in
-    both_fit of c.args.head.room from new readings points same_d c.if-head-source-2.false all_new few_readings (rw (← counted) (omega (arith, c.if-head-count.false)))
+    both_fit of c.args.head.room from new readings points same_d c.if-head-source-2.false all_new fits (rw (← counted) (omega (arith, c.if-head-count.false)))
