@@ -44,8 +44,6 @@ returns c =
     let e : l.j ≡ suc c.args.d = omega arith in
     record { weights_are = l.invariant.2 ∙ ap (weights_by _ _ _) e ∙ weights_all _ _ _ p.S_least; coords_are = l.invariant.3 ∙ ap (coords_by _ _ _) e ∙ coords_all _ _ _ p.S_least }
 
--- TODO open, and no old answer: simplex::corner::corner_of
-
 pub corner_of-c-requires-clause-parts : goal.corner_of-c-requires-clause-parts
 corner_of-c-requires-clause-parts c = parts_of _ _ _ c.requires c.put_splits.ensures
 

@@ -44,5 +44,3 @@ returns-then-same_key c =
     let l = c.loop-e in
     finds c.args.keys.now c.args.index.now c.args.key.now (length c.args.index.now)
     l.at _ (λ z. let h = c.if-e-eq0.false in omega arith) (c.requires.named l.at) c.same_key.ensures c.if-same_key.true l.invariant.3
-
--- TODO open, and no old answer: index::keys::same_key
