@@ -160,9 +160,7 @@ fn show_source_merged(
         &source_index,
         &source_book,
     );
-    print!(rt; "MERGED")?;
-    print_count(rt, merged.number as usize)?;
-    println!(rt; "")?;
+    println!(rt; "MERGED {}", merged.number)?;
     print_table(rt, merged.head, keys, sums, index, book, order)?;
     print_book(rt, book)
 }
