@@ -1,16 +1,17 @@
 // Making a fresh table with its book in lent memory.
 ghost use Rattle.table.specs.Table.{Settings};
-ghost use Rattle.table.specs.Heads.{head_of};
+ghost use Rattle.lattice.specs.Refusals.{told};
+ghost use Rattle.table.specs.Heads.{head_of, head_told};
 ghost use Rattle.book.specs.Calls.{fresh_refusal, after_fresh};
 ghost use Rattle.book.specs.Heads.{lent_in, AnswersBookIn};
 
 use crate::settings::{in_range, lengths_fit};
-use lattice::refusals::{OTHER_LENGTH, SETTINGS_OUT_OF_RANGE};
+use lattice::refusals::Refusal;
+use table::Head;
 use table::clear::{clear_index, clear_keys, clear_sums};
-use table::{Answer, Head};
 
-// The head of these settings with no reading and no point, refused or not; the slices are filled
-// with 0 where it is not.
+// The head of these settings with no reading and no point, and the slices filled with 0; refused, they
+// are left as they were.
 pub fn fresh(
     d: usize,
     fineness: u32,
@@ -20,24 +21,13 @@ pub fn fresh(
     sums: &mut [i64],
     index: &mut [u16],
     book: &mut [i32],
-) -> Answer
+) -> Result<Head, Refusal>
     ensures { (let c : Settings = record { d = d; S = fineness; C = capacity } in
         let b = lent_in room keys sums index book in
-        AnswersBookIn (head_of c room) (fresh_refusal c b) (after_fresh c b) result.number result.head keys sums index book) }
+        AnswersBookIn (head_of c room) (fresh_refusal c b) (after_fresh c b) (told result) (head_told (head_of c room) result) keys sums index book) }
 {
-    let head = Head {
-        d,
-        fineness,
-        capacity,
-        room,
-        readings: 0,
-        points: 0,
-    };
     if !in_range(d, fineness, capacity, room) {
-        return Answer {
-            number: SETTINGS_OUT_OF_RANGE,
-            head,
-        };
+        return Err(Refusal::SettingsOutOfRange);
     }
     if !lengths_fit(
         d,
@@ -48,14 +38,18 @@ pub fn fresh(
         index.len(),
         book.len(),
     ) {
-        return Answer {
-            number: OTHER_LENGTH,
-            head,
-        };
+        return Err(Refusal::OtherLength);
     }
     clear_keys(keys);
     clear_sums(sums);
     clear_index(index);
     clear_keys(book);
-    Answer { number: 0, head }
+    Ok(Head {
+        d,
+        fineness,
+        capacity,
+        room,
+        readings: 0,
+        points: 0,
+    })
 }

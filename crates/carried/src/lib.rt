@@ -4,6 +4,7 @@
 
 ghost use Rattle.std.specs.Prelude.{◌≡◌, ◌+◌, ◌*◌, ◌≤◌, length};
 ghost use Rattle.lattice.specs.Limits.{most_readings};
+ghost use Rattle.lattice.specs.Refusals.{told};
 ghost use Rattle.table.specs.Sound.{Ranged, Shape};
 ghost use Rattle.table.specs.Heads.{settings, table};
 ghost use Rattle.book.specs.Book.{sound_with_book};
@@ -14,7 +15,7 @@ mod limits;
 
 use crate::limits::keeps_limits;
 use book::settings::{in_range, lengths_fit};
-use lattice::refusals::{NOT_SOUND, OTHER_LENGTH, SETTINGS_OUT_OF_RANGE};
+use lattice::refusals::Refusal;
 use numbers::numbers_apart;
 use soundness::is_sound;
 use spread::sums_are_theirs;
@@ -43,7 +44,7 @@ pub fn is_carried(head: Head, keys: &[i32], sums: &[i64], index: &[u16], book: &
     sums_are_theirs(head, keys, sums, index, book)
 }
 
-// The number of the first of refusals 1, 2 and 3 that is met, else 0. Where a call is lent more than
+// The first of refusals 1, 2 and 3 that is met. Where a call is lent more than
 // the table and its book, `more` says whether that has its length too.
 pub fn refusal_of(
     head: Head,
@@ -52,11 +53,11 @@ pub fn refusal_of(
     index: &[u16],
     book: &[i32],
     more: bool,
-) -> u8
-    ensures { result ≡ call_refusal (settings head) (booked head keys.now sums.now index.now book.now) more }
+) -> Result<(), Refusal>
+    ensures { told result ≡ call_refusal (settings head) (booked head keys.now sums.now index.now book.now) more }
 {
     if !in_range(head.d, head.fineness, head.capacity, head.room) {
-        return SETTINGS_OUT_OF_RANGE;
+        return Err(Refusal::SettingsOutOfRange);
     }
     if !lengths_fit(
         head.d,
@@ -67,13 +68,13 @@ pub fn refusal_of(
         index.len(),
         book.len(),
     ) {
-        return OTHER_LENGTH;
+        return Err(Refusal::OtherLength);
     }
     if !more {
-        return OTHER_LENGTH;
+        return Err(Refusal::OtherLength);
     }
     if !is_carried(head, keys, sums, index, book) {
-        return NOT_SOUND;
+        return Err(Refusal::NotSound);
     }
-    0
+    Ok(())
 }

@@ -17,7 +17,7 @@ pub fn keeps_limits(book: &[i32], d: usize, n: usize) -> bool
         let entry = width * j;
         let start = entry + 1;
         let end = entry + width;
-        if own_refusal(d, &book[start..end]) != 0 {
+        if own_refusal(d, &book[start..end]).is_err() {
             return false;
         }
     }

@@ -7,3 +7,4 @@ pub mod Reach
 pub mod Tests
 pub mod Judging
 pub mod Starred
+pub mod Refusing

@@ -1,5 +1,7 @@
 -- Refusal numbers, and refusals in their order.
-use Rattle.std.specs.Prelude.{Bool, true, false, List, [], ◌∷◌, ℕ}
+use Rattle.std.specs.Prelude.{Bool, true, false, List, [], ◌∷◌, ℕ, Result, Ok, Err}
+use Rattle.lattice.specs.declared.refusals.Refusal.{Refusal}
+use Rattle.lattice.specs.declared.refusals.Refusal.TheVariants.{SettingsOutOfRange, OtherLength, NotSound, CoordinateBeyond, SumNotZero, ValueBeyond, TooManyReadings, TooManyPoints, SettingsDiffer, NoPointMet, NoMassMet, KindNotListed, SettingsMisplaced, OtherDimension, BodyCut, ProgramLimit, RawOutOfRange, NumberNotHeld, NumberHeld}
 
 -- tests in their order, each with the number that is told where it fails
 abbrev pub Tests : Type 0
@@ -89,3 +91,30 @@ number_not_held = 19
 -- "20 number held already (enter and loading, after 6; merge, after 9; never the writer)"
 abbrev pub number_held : ℕ
 number_held = 20
+
+-- the number of a refusal
+abbrev pub number : Refusal → ℕ
+number SettingsOutOfRange = settings_out_of_range
+number OtherLength = other_length
+number NotSound = not_sound
+number CoordinateBeyond = coordinate_beyond
+number SumNotZero = sum_not_zero
+number ValueBeyond = value_beyond
+number TooManyReadings = too_many_readings
+number TooManyPoints = too_many_points
+number SettingsDiffer = settings_differ
+number NoPointMet = no_point_met
+number NoMassMet = no_mass_met
+number KindNotListed = kind_not_listed
+number SettingsMisplaced = settings_misplaced
+number OtherDimension = other_dimension
+number BodyCut = body_cut
+number ProgramLimit = program_limit
+number RawOutOfRange = raw_out_of_range
+number NumberNotHeld = number_not_held
+number NumberHeld = number_held
+
+-- the number that an outcome tells, and 0 where nothing is refused
+abbrev pub told : {A : Type 0} → Result A Refusal → ℕ
+told (Ok _) = 0
+told (Err refusal) = number refusal

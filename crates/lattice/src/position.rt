@@ -4,17 +4,16 @@ ghost use Rattle.whole.specs.Sum.{sum};
 ghost use Rattle.whole.specs.Lists.{at};
 ghost use Rattle.lattice.specs.Limits.{most_coords};
 ghost use Rattle.lattice.specs.Position.{all_near, judged};
+ghost use Rattle.lattice.specs.Refusals.{told};
 
 use crate::limits::FARTHEST;
-use crate::refusals::{COORDINATE_BEYOND, SUM_NOT_ZERO};
+use crate::refusals::Refusal;
 
 fn all_near(x: &[i32]) -> bool
     ensures { result ≡ all_near x.now }
 {
-    let n = x.len();
-    for i in 0..n {
-        let c = x[i];
-        if FARTHEST < whole::words::size_of(c) {
+    for c in x {
+        if FARTHEST < c.unsigned_abs() {
             return false;
         }
     }
@@ -26,25 +25,23 @@ fn coordinate_sum(x: &[i32]) -> i64
     requires { length x.now ≤ most_coords }
     ensures { result ≡ sum (length x.now) (at x.now) }
 {
-    let n = x.len();
-    let mut total: i64 = 0;
-    for i in 0..n {
-        let c = x[i];
-        total = total + (c as i64);
+    let mut total = 0;
+    for c in x {
+        total += i64::from(*c);
     }
     total
 }
 
-// 0 for a position, else the number of the first refusal that is met.
-pub fn judge(x: &[i32]) -> u8
+// Whether the coordinates are a position, or the first refusal that is met.
+pub fn judge(x: &[i32]) -> Result<(), Refusal>
     requires { length x.now ≤ most_coords }
-    ensures { result ≡ judged x.now }
+    ensures { told result ≡ judged x.now }
 {
     if !all_near(x) {
-        return COORDINATE_BEYOND;
+        return Err(Refusal::CoordinateBeyond);
     }
     if coordinate_sum(x) != 0 {
-        return SUM_NOT_ZERO;
+        return Err(Refusal::SumNotZero);
     }
-    0
+    Ok(())
 }

@@ -1,7 +1,8 @@
 -- The head and the lent slices as the definitions have them, and what a call hands back and leaves.
-use Rattle.std.specs.Prelude.{◌≡◌, List, ℕ, ℤ}
+use Rattle.std.specs.Prelude.{◌≡◌, List, ℕ, ℤ, Result, Ok, Err}
 use Rattle.std.specs.Borrow.{Bor, MutBor}
 use denote.Triple.Both.{Both}
+use Rattle.lattice.specs.declared.refusals.Refusal.{Refusal}
 use Rattle.table.specs.declared.Head.{Head}
 use Rattle.table.specs.Table.{Settings, Table}
 
@@ -24,6 +25,11 @@ head_of c B = record { d = c.d; fineness = c.S; capacity = c.C; room = B; readin
 -- a head with other counts
 abbrev pub with_counts : Head → ℕ → ℕ → Head
 with_counts h n m = record { d = h.d; fineness = h.fineness; capacity = h.capacity; room = h.room; readings = n; points = m }
+
+-- the head that a call hands back, and where it refuses the one that it was given
+abbrev pub head_told : Head → Result Head Refusal → Head
+head_told given (Ok head) = head
+head_told given (Err _) = given
 
 -- Points counted and memory left are those of the table t.
 pub record Holds (t : Table) (points : ℕ) (keys sums : List ℤ) (index : List ℕ) : Type 0 where
