@@ -2,6 +2,7 @@
 // the call leaves, stands in specs/; that there is one listing of a table, in proofs/.
 #![tactic(auto)]
 
+ghost use Rattle.lattice.specs.Refusals.{told};
 ghost use Rattle.table.specs.Heads.{settings};
 ghost use Rattle.book.specs.Heads.{booked};
 ghost use Rattle.listing.specs.Listing.{ListsIn};
@@ -13,6 +14,7 @@ mod sort;
 
 use crate::fill::fill;
 use carried::refusal_of;
+use lattice::refusals::Refusal;
 use table::Head;
 
 // List: refusals 1, 2, 3. Accepted, the list has the point numbers ordered by coordinate 0, then 1 and
@@ -24,15 +26,12 @@ pub fn list(
     index: &[u16],
     book: &[i32],
     list: &mut [u16],
-) -> u8
+) -> Result<(), Refusal>
     ensures { let b = booked head keys.now sums.now index.now book.now in
-        ListsIn (settings head) b result list }
+        ListsIn (settings head) b (told result) list }
 {
     let more = list.len() == head.capacity;
-    let number = refusal_of(head, keys, sums, index, book, more);
-    if number != 0 {
-        return number;
-    }
+    refusal_of(head, keys, sums, index, book, more)?;
     fill(keys, head.d, head.points, list);
-    0
+    Ok(())
 }
