@@ -11,13 +11,7 @@ use lattice::limits::MOST_READINGS;
 pub fn in_range(d: usize, fineness: u32, capacity: usize, room: usize) -> bool
     ensures { result ≡ (ranged (record { d = d; S = fineness; C = capacity }) && room_ranged room) }
 {
-    if !table::settings::in_range(d, fineness, capacity) {
-        return false;
-    }
-    if room < 1 {
-        return false;
-    }
-    room <= MOST_READINGS
+    table::settings::in_range(d, fineness, capacity) && (1..=MOST_READINGS).contains(&room)
 }
 
 // Whether slices of so many keys, sums, index places and numbers of a book are those of a table with
@@ -34,8 +28,5 @@ pub fn lengths_fit(
     requires { (d ≤ most_d) × (capacity ≤ most_C) × (room ≤ most_readings) }
     ensures { result ≡ (fits_by d capacity keys sums index && eqb book ((d + 3) * room)) }
 {
-    if !table::settings::lengths_fit(d, capacity, keys, sums, index) {
-        return false;
-    }
-    book == (d + 3) * room
+    table::settings::lengths_fit(d, capacity, keys, sums, index) && book == (d + 3) * room
 }

@@ -8,10 +8,7 @@ pub fn write_at(book: &mut [i32], start: usize, numbers: &[i32])
     requires { start + length numbers.now ≤ length book.old }
     ensures { book.new ≡ splice book.old start numbers.now }
 {
-    let count = numbers.len();
-    for i in 0..count {
-        book[start + i] = numbers[i];
-    }
+    book[start..start + numbers.len()].copy_from_slice(numbers);
 }
 
 // Entry n: its number, then the reading's own numbers, position and value.

@@ -71,18 +71,20 @@ module _ (c : Settings) (t : Table) (r : Row) (A : Addable c t r) where
     named : (entry t p ≡ 0 → ⊥) → found c t r.key ≡ suc (entry t p - 1)
     named z = omega (arith, here, z)
 
-    pub to_raise : (entry t p ≡ 0 → ⊥) → SFits w64 r.mass → SFits w64 r.value → Raisable t.sums (entry t p - 1) (W64 r.mass) (W64 r.value)
-    to_raise z f g = subst (λ (r : Row). Raisable t.sums (entry t p - 1) r.mass r.value) (sym (passed_is r f g))
-        (raisable c t r A (entry t p - 1)
-        (found_low c.C t.m (key c t) (entry t) A.ranged.C_least A.kept.indexed.sparse r.key (entry t p - 1) (named z)))
+    -- and so wide the machine has what is read there
+    module _ {x : ℕ} (x-is : x ≡ entry t p) where
+      pub to_raise : (entry t p ≡ 0 → ⊥) → SFits w64 r.mass → SFits w64 r.value → Raisable t.sums (x - 1) (W64 r.mass) (W64 r.value)
+      to_raise z f g = rw x-is (subst (λ (r : Row). Raisable t.sums (entry t p - 1) r.mass r.value) (sym (passed_is r f g))
+          (raisable c t r A (entry t p - 1)
+          (found_low c.C t.m (key c t) (entry t) A.ranged.C_least A.kept.indexed.sparse r.key (entry t p - 1) (named z))))
 
-    pub added_old : (entry t p ≡ 0 → ⊥) → SFits w64 r.mass → SFits w64 r.value → {sums : List ℤ}
-        → sums ≡ set_pair t.sums (entry t p - 1) (at t.sums (2 * (entry t p - 1)) +ℤ W64 r.mass) (at t.sums (2 * (entry t p - 1) + 1) +ℤ W64 r.value)
-        → Holds (add c t r) t.m t.keys sums t.index
-    unfolding raise
-    added_old z f g s = rw (named z) (record {
-      points_are = refl;
-      keys_are = refl;
-      sums_are = s ∙ ap (λ (r : Row). set_pair t.sums (entry t p - 1) (at t.sums (2 * (entry t p - 1)) +ℤ r.mass) (at t.sums (2 * (entry t p - 1) + 1) +ℤ r.value)) (passed_is r f g);
-      index_are = refl;
-    })
+      pub added_old : (entry t p ≡ 0 → ⊥) → SFits w64 r.mass → SFits w64 r.value → {sums : List ℤ}
+          → sums ≡ set_pair t.sums (x - 1) (at t.sums (2 * (x - 1)) +ℤ W64 r.mass) (at t.sums (2 * (x - 1) + 1) +ℤ W64 r.value)
+          → Holds (add c t r) t.m t.keys sums t.index
+      unfolding raise
+      added_old z f g s = rw (named z, ← x-is) (record {
+        points_are = refl;
+        keys_are = refl;
+        sums_are = s ∙ ap (λ (r : Row). set_pair t.sums (x - 1) (at t.sums (2 * (x - 1)) +ℤ r.mass) (at t.sums (2 * (x - 1) + 1) +ℤ r.value)) (passed_is r f g);
+        index_are = refl;
+      })

@@ -61,7 +61,7 @@ pub fn add_row(
     if entry == 0 {
         return append_row(points, keys, sums, index, place, key, mass, value);
     }
-    raise_pair(sums, (entry as usize) - 1, mass, value);
+    raise_pair(sums, usize::from(entry) - 1, mass, value);
     points
 }
 
@@ -72,9 +72,5 @@ pub fn is_new(head: table::Head, keys: &[i32], index: &[u16], key: &[i32]) -> us
     ensures { result ≡ one_if_new (settings head) keys.now index.now key.now }
 {
     let place = index::search::search(keys, index, head.capacity, key);
-    let entry = index[place];
-    if entry == 0 {
-        return 1;
-    }
-    0
+    usize::from(index[place] == 0)
 }

@@ -10,9 +10,8 @@ pub fn set_pair(sums: &mut [i64], point: usize, mass: i64, value: i64)
     ensures { sums.new ≡ set_pair sums.old point mass value }
 {
     let a = 2 * point;
-    let b = a + 1;
     sums[a] = mass;
-    sums[b] = value;
+    sums[a + 1] = value;
 }
 
 // Mass and value are added to what the point has.
@@ -21,8 +20,6 @@ pub fn raise_pair(sums: &mut [i64], point: usize, mass: i64, value: i64)
     ensures { sums.new ≡ set_pair sums.old point (at sums.old (2 * point) +ℤ mass) (at sums.old (2 * point + 1) +ℤ value) }
 {
     let a = 2 * point;
-    let b = a + 1;
-    let m = sums[a];
-    let v = sums[b];
-    set_pair(sums, point, m + mass, v + value);
+    sums[a] += mass;
+    sums[a + 1] += value;
 }

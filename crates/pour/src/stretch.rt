@@ -7,11 +7,7 @@ pub fn put_key(stretch: &mut [i32], key: &[i32])
     requires { length stretch.old ≡ length key.now }
     ensures { stretch.new ≡ key.now }
 {
-    let n = key.len();
-    for i in 0..n {
-        let k = key[i];
-        stretch[i] = k;
-    }
+    stretch.copy_from_slice(key);
 }
 
 // A key into the stretch of a point.

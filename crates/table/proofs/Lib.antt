@@ -15,4 +15,3 @@ pub mod Keeping
 pub mod Meaning
 pub mod Theorems
 pub mod Calls
-pub mod Clearing

@@ -32,11 +32,8 @@ pub fn with_counts(head: Head, readings: usize, points: usize) -> Head
     ensures { result ≡ with_counts head readings points }
 {
     Head {
-        d: head.d,
-        fineness: head.fineness,
-        capacity: head.capacity,
-        room: head.room,
         readings,
         points,
+        ..head
     }
 }

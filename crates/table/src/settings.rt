@@ -5,25 +5,13 @@ ghost use Rattle.table.specs.Calls.{ranged, fits_by};
 
 use lattice::limits::{MOST_CAPACITY, MOST_D, MOST_FINENESS};
 
+#[tactic(auto, unfolding(crate::specs::Calls::ranged))]
 pub fn in_range(d: usize, fineness: u32, capacity: usize) -> bool
     ensures { result ≡ ranged (record { d = d; S = fineness; C = capacity }) }
 {
-    if d < 1 {
-        return false;
-    }
-    if MOST_D < d {
-        return false;
-    }
-    if fineness < 1 {
-        return false;
-    }
-    if MOST_FINENESS < fineness {
-        return false;
-    }
-    if capacity < 1 {
-        return false;
-    }
-    capacity <= MOST_CAPACITY
+    (1..=MOST_D).contains(&d)
+        && (1..=MOST_FINENESS).contains(&fineness)
+        && (1..=MOST_CAPACITY).contains(&capacity)
 }
 
 // Whether slices of so many keys, sums and index places are those of a table.
@@ -31,11 +19,5 @@ pub fn lengths_fit(d: usize, capacity: usize, keys: usize, sums: usize, index: u
     requires { (d ≤ most_d) × (capacity ≤ most_C) }
     ensures { result ≡ fits_by d capacity keys sums index }
 {
-    if keys != d * capacity {
-        return false;
-    }
-    if sums != 2 * capacity {
-        return false;
-    }
-    index == 2 * capacity
+    keys == d * capacity && sums == 2 * capacity && index == 2 * capacity
 }

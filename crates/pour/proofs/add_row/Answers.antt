@@ -25,8 +25,8 @@ returns-then-entry-eq0 c =
 
 pub raise_pair-requires : goal.raise_pair-requires
 raise_pair-requires c =
-    to_raise _ _ _ c.requires c.search-place.ensures (λ y. let z = c.if-entry-eq0.false in omega arith) c.ranges.mass c.ranges.value
+    to_raise _ _ _ c.requires c.search-place.ensures c.from.ensures (λ y. let z = c.if-entry-eq0.false in omega arith) c.ranges.mass c.ranges.value
 
 pub returns : goal.returns
 returns c =
-    added_old _ _ _ c.requires c.search-place.ensures (λ y. let z = c.if-entry-eq0.false in omega arith) c.ranges.mass c.ranges.value c.raise_pair.ensures
+    added_old _ _ _ c.requires c.search-place.ensures c.from.ensures (λ y. let z = c.if-entry-eq0.false in omega arith) c.ranges.mass c.ranges.value c.raise_pair.ensures
