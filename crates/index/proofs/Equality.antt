@@ -1,8 +1,12 @@
--- Equal keys: what the tests say, one coordinate at a time; the stretch of a point as a part of the keys. Assumes nothing.
-use Rattle.std.proofs.Common.{◌≡◌, ℕ, suc, ◌+◌, ◌-◌, ◌*◌, ◌<◌, ◌≤◌, Bool, true, false, ◌&&◌, T, eqb, List, [], ◌∷◌, length, take, drop, ℤ, pos, negsuc, sym, refl, ap, ◌∙◌, subst, ap₂, mul-le-mul_left, add-one, arith, eqb→eq, drop_of_length-le, drop-cons}
+-- Equal keys: what the tests say, and `==` at slices; the stretch of a point as a part of the keys. Assumes nothing.
+use Rattle.std.proofs.Common.{◌≡◌, ℕ, suc, ◌+◌, ◌-◌, ◌*◌, ◌<◌, ◌≤◌, T, eqb, List, [], ◌∷◌, length, take, drop, ℤ, pos, negsuc, sym, refl, ap, subst, ap₂, mul-le-mul_left, arith, eqb→eq}
 use lib.Dec.{eqb_refl}
+use Rattle.std.specs.Bool.{one_answer}
+use Rattle.std.specs.Ordering.{int_eq}
+use Rattle.std.specs.Cmp.Lexicographic.{pointwise}
+use Rattle.std.specs.Cmp.Rules.{signed_items}
 use Rattle.whole.specs.Lists.{at}
-use Rattle.whole.proofs.Tests.{and_l, and_r, and_i, T_true, T_false}
+use Rattle.whole.proofs.Tests.{and_l, and_r, and_i, T_true}
 use Rattle.whole.proofs.Lists.{length_tab, part_tab}
 use Rattle.index.specs.Keys.{eq_z, same, key_at}
 
@@ -35,25 +39,9 @@ same_refl (a ∷ k) = and_i (eq_z a a) (same k k) (eq_z_refl a) (same_refl k)
 pub eq_same : (k l : List ℤ) → k ≡ l → T (same k l)
 eq_same k l e = subst (λ (l : List ℤ). T (same k l)) e (same_refl k)
 
--- ---- two keys compared by a loop that has passed i coordinates
-step : (a b : List ℤ) (i : ℕ) → i < length a → i < length b → same (drop i a) (drop i b) ≡ (eq_z (at a i) (at b i) && same (drop (i + 1) a) (drop (i + 1) b))
-unfolding same
-step a b i p q = rw (add-one, drop-cons a i (pos 0) p, drop-cons b i (pos 0) q)
-
-pub same_turn : {r : Bool} (a b : List ℤ) (i : ℕ) → i < length a → i < length b → at a i ≡ at b i
-    → r ≡ same (drop i a) (drop i b) → r ≡ same (drop (i + 1) a) (drop (i + 1) b)
-same_turn a b i p q e h = h ∙ step a b i p q ∙ rw (e, T_true (eq_z (at b i) (at b i)) (eq_z_refl (at b i)))
-
-pub same_stop : {r : Bool} (a b : List ℤ) (i : ℕ) → i < length a → i < length b → (at a i ≡ at b i → ⊥)
-    → r ≡ same (drop i a) (drop i b) → false ≡ r
-same_stop a b i p q e h = sym (h ∙ step a b i p q ∙ rw (T_false (eq_z (at a i) (at b i)) (λ t. e (eq_z_eq (at a i) (at b i) t))))
-
-pub same_done : {r : Bool} (a b : List ℤ) (i : ℕ) → length a ≤ i → length b ≤ i → r ≡ same (drop i a) (drop i b) → true ≡ r
-unfolding same
-same_done a b i p q h = sym (h ∙ rw (drop_of_length-le a p, drop_of_length-le b q))
-
-pub same_lengths : (a b : List ℤ) → (length a ≡ length b → ⊥) → false ≡ same a b
-same_lengths a b h = sym (T_false (same a b) (λ t. h (ap length (same_eq a b t))))
+-- ---- two keys, compared as slices
+pub slices_same : (a b : List ℤ) → pointwise int_eq a b ≡ same a b
+slices_same a b = one_answer _ _ (signed_items a b) (λ t. same_eq a b (subst T (sym t) tt), λ e. T_true (same a b) (eq_same a b e))
 
 -- ---- the stretch of a point
 pub key_at_length : (d : ℕ) (keys : List ℤ) (i : ℕ) → length (key_at d keys i) ≡ d

@@ -2,19 +2,9 @@
 ghost use Rattle.std.specs.Prelude.{◌≡◌};
 ghost use Rattle.index.specs.Keys.{same};
 
+#[tactic(auto, using(crate::proofs::Equality::slices_same))]
 pub fn same_key(a: &[i32], b: &[i32]) -> bool
     ensures { result ≡ same a.now b.now }
 {
-    let n = a.len();
-    if n != b.len() {
-        return false;
-    }
-    for i in 0..n {
-        let x = a[i];
-        let y = b[i];
-        if x != y {
-            return false;
-        }
-    }
-    true
+    a == b
 }

@@ -28,12 +28,13 @@ pub fn search(keys: &[i32], index: &[u16], capacity: usize, key: &[i32]) -> usiz
     let places = index.len();
     let d = key.len();
     let mut at = home_of(key, capacity);
+    // A loop: the walk goes round the end, and a place that it comes to ends it, not a count.
     let found = loop {
         let e = index[at];
         if e == 0 {
             break at;
         }
-        let i = (e as usize) - 1;
+        let i = usize::from(e) - 1;
         let a = d * i;
         let b = a + d;
         if same_key(&keys[a..b], key) {

@@ -20,7 +20,7 @@ loop-e-smaller c =
     let inside : c.requires.hole < length c.args.index.now = omega (arith, c.requires.places, c.requires.hole_inside) in
     rw c.next_place-at.ensures
     (falls c.args.keys.now c.args.index.now c.args.key.now (length c.args.index.now) c.requires.hole inside c.requires.hole_empty
-    l.at _ l.invariant.0 (λ z. let h = c.if-e-eq0.false in omega arith) (c.requires.named l.at) c.same_key.ensures c.if-same_key.false)
+    l.at _ l.invariant.0 (λ z. let h = c.if-e-eq0.false in omega arith) (c.requires.named l.at) (rw c.from-i.ensures at c.same_key.ensures) c.if-same_key.false)
 
 pub loop-e-preserved : goal.loop-e-preserved
 loop-e-preserved c =
@@ -31,7 +31,7 @@ loop-e-preserved c =
       refl,
       refl,
       goes_on c.args.keys.now c.args.index.now c.args.key.now (length c.args.index.now) c.requires.hole inside c.requires.hole_empty
-          l.at _ l.invariant.0 (λ z. let h = c.if-e-eq0.false in omega arith) (c.requires.named l.at) c.same_key.ensures c.if-same_key.false l.invariant.3,
+          l.at _ l.invariant.0 (λ z. let h = c.if-e-eq0.false in omega arith) (c.requires.named l.at) (rw c.from-i.ensures at c.same_key.ensures) c.if-same_key.false l.invariant.3,
     )
 
 pub returns-then-e-eq0 : goal.returns-then-e-eq0
@@ -43,4 +43,4 @@ pub returns-then-same_key : goal.returns-then-same_key
 returns-then-same_key c =
     let l = c.loop-e in
     finds c.args.keys.now c.args.index.now c.args.key.now (length c.args.index.now)
-    l.at _ (λ z. let h = c.if-e-eq0.false in omega arith) (c.requires.named l.at) c.same_key.ensures c.if-same_key.true l.invariant.3
+    l.at _ (λ z. let h = c.if-e-eq0.false in omega arith) (c.requires.named l.at) (rw c.from-i.ensures at c.same_key.ensures) c.if-same_key.true l.invariant.3
