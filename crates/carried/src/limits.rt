@@ -13,11 +13,8 @@ pub fn keeps_limits(book: &[i32], d: usize, n: usize) -> bool
     ensures { result ≡ all n (λ j. keeps_limits (entry_of d book.now j).reading) }
 {
     let width = d + 3;
-    for j in 0..n {
-        let entry = width * j;
-        let start = entry + 1;
-        let end = entry + width;
-        if own_refusal(d, &book[start..end]).is_err() {
+    for entry in book[..width * n].chunks_exact(width) {
+        if own_refusal(d, &entry[1..]).is_err() {
             return false;
         }
     }

@@ -47,7 +47,7 @@ pub fn new_in_slots(
     let n = head.d + 1;
     let mut count = 0;
     for slot in 0..n {
-        count = count + new_in_slot(head, keys, index, weights, coords, slot);
+        count += new_in_slot(head, keys, index, weights, coords, slot);
     }
     count
 }
@@ -58,7 +58,7 @@ pub fn times(weight: u32, value: i32) -> i64
     requires value_bound { nat_abs value ≤ most_value }
     ensures { result ≡ pos weight *ℤ value }
 {
-    (weight as i64) * (value as i64)
+    i64::from(weight) * i64::from(value)
 }
 
 // A slot of weight 0 has no point: nothing is stored for it.
@@ -86,7 +86,7 @@ fn pour_slot(
     }
     let start = MOST_COORDS * slot;
     let end = start + head.d;
-    let mass = weight as i64;
+    let mass = i64::from(weight);
     let sum = times(weight, value);
     add_row(
         head,

@@ -1,5 +1,5 @@
 -- The readings of a book on a sheet, one after the other.
-use mathlib.Core.Path.{◌≡◌, refl, ap}
+use mathlib.Core.Path.{◌≡◌, refl, ap, ◌∙◌}
 use mathlib.Core.List.{List, [], ◌++◌}
 use Prim.Native.Nat.{ℕ, ◌+◌, ◌*◌, ◌-◌, ◌≤◌, ◌<◌}
 use native.Mathlib.Numerals.{add-one}
@@ -42,19 +42,20 @@ module _ (c : Settings) (n : ℕ) (keys : List ℤ) (index : List ℕ) (sheet bo
   entry_fits j h = omega (arith, entry_inside c.d n j h, B.fit)
 
   -- reading j, as the code lends it, after those before it
-  module _ (j from to : ℕ) (begins : from ≡ (c.d + 3) * j + 1) (ends : to ≡ (c.d + 3) * j + (c.d + 3)) {x : ℕ} {mid : List ℤ} (L : Lifts c keys index sheet (shares_to c.d c.S book j) x mid) where
-    pub reading_ready : j < n → ToSpread c keys index mid (take (to - from) (drop from book))
+  module _ (j : ℕ) {part : List ℤ} (its : part ≡ take ((c.d + 3) * j + (c.d + 3) - ((c.d + 3) * j + 1)) (drop ((c.d + 3) * j + 1) book)) {x : ℕ} {mid : List ℤ} (L : Lifts c keys index sheet (shares_to c.d c.S book j) x mid) where
+    is_entry : reading_of c.d part ≡ (entry_of c.d book j).reading
+    is_entry = ap (reading_of c.d) its ∙ part_reading c.d book j _ _ refl refl
+
+    pub reading_ready : j < n → ToSpread c keys index mid part
     unfolding shares_to
     reading_ready h = record {
       ranged = B.ranged;
       rows = 0 + most_coords * j;
       few = omega (arith, B.few);
       ready = rw L.left_is (after_collected c keys index own most_coords n (λ i l. shares_light c (entry_of c.d book i).reading B.ranged (B.lawful i l).fair) (λ i l. own_few i) 0 sheet B.ready j (omega arith));
-      size = part_size c.d book j from to begins ends (entry_fits j h);
-      lawful = rw (part_reading c.d book j from to begins ends) (B.lawful j h);
+      size = ap length its ∙ part_size c.d book j _ _ refl refl (entry_fits j h);
+      lawful = rw is_entry (B.lawful j h);
     }
 
-    pub book_more : {y : ℕ} {left : List ℤ} → Lifts c keys index mid (shares c.d c.S (reading_of c.d (take (to - from) (drop from book)))) y left
-        → Lifts c keys index sheet (shares_to c.d c.S book (j + 1)) (x + y) left
-    book_more M = lifts_more c keys index (shares_to c.d c.S book j) (own j) (shares_to c.d c.S book (j + 1)) L
-        (lifts_as c keys index _ (own j) M (ap (shares c.d c.S) (part_reading c.d book j from to begins ends))) (shares_more j)
+    pub book_more : {y : ℕ} {left : List ℤ} → Lifts c keys index mid (shares c.d c.S (reading_of c.d part)) y left → Lifts c keys index sheet (shares_to c.d c.S book (j + 1)) (x + y) left
+    book_more M = lifts_more c keys index (shares_to c.d c.S book j) (own j) (shares_to c.d c.S book (j + 1)) L (lifts_as c keys index _ (own j) M (ap (shares c.d c.S) is_entry)) (shares_more j)

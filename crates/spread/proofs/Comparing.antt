@@ -1,19 +1,23 @@
 -- The sheet after all readings has what they give to each stored point, so comparing it with the sums is the test.
-use mathlib.Core.Path.{◌≡◌, refl, sym, ap, ap₂, ◌∙◌}
+use mathlib.Core.Path.{◌≡◌, refl, sym, ap, ap₂, subst, ◌∙◌}
 use mathlib.Core.Bool.{Bool, true, false, ◌&&◌}
 use mathlib.Core.List.{List, [], ◌∷◌, map-append}
 use Prim.Native.Nat.{ℕ, zero, suc, ◌+◌, ◌*◌, ◌≤◌, ◌<◌}
 use native.Mathlib.Omega.{arith}
-use lib.Dec.{eqb, eqb-suc-zero}
+use lib.Dec.{T, eqb, eqb-suc-zero}
 use lib.IntN.{ℤ, pos, +ℤ_idl, ◌+ℤ◌, ◌*ℤ◌}
-use lib.ListN.{length, replicate, length-replicate}
+use lib.ListN.{length, take, replicate, length-replicate}
+use lib.Seq.{length-take-le, get_or-take, ext_get_or}
+use Rattle.std.specs.Bool.{Decides}
 use borrow.Author.Tests.{ne_eqb}
 use Rattle.whole.specs.Sum.{sum, over, all}
 use Rattle.whole.specs.Lists.{at, tab, collect, All}
 use Rattle.whole.proofs.Lists.{zeros}
+use Rattle.whole.proofs.Tests.{T_true, T_ext, all_at, all_of}
 use Rattle.whole.proofs.Sum.{sum_cong, over_append}
 use Rattle.lattice.specs.Weight.{weight}
 use Rattle.index.specs.Keys.{eq_z}
+use Rattle.index.proofs.Equality.{eq_z_eq, eq_z_refl}
 use Rattle.table.specs.Table.{Settings, Table, Row, key, mass, value, keys_of, whole, found, mass_of}
 use Rattle.table.specs.Pour.{raise, add_at, pour, news_in, news}
 use Rattle.table.specs.Reading.{Reading, shares, mass_from, value_from}
@@ -59,6 +63,22 @@ none_missing c keys index (suc n) g =
     ap (λ (x : ℕ). eqb x 0) (ap (news_in c keys index) (map-append (λ (r : Row). r.key) (collect n g) (g n)) ∙ news_append c keys index (keys_of (collect n g)) (keys_of (g n)))
     ∙ none_both (news_in c keys index (keys_of (collect n g))) (news_in c keys index (keys_of (g n)))
     ∙ ap (λ (b : Bool). b && eqb (news_in c keys index (keys_of (g n))) 0) (none_missing c keys index n g)
+
+-- ---- the first n numbers of two lists, compared
+pub same_firsts : (n : ℕ) (a b : List ℤ) {r : Bool} → n ≤ length a → n ≤ length b → Decides r (take n a ≡ take n b) → r ≡ all n (λ p. eq_z (at a p) (at b p))
+same_firsts n a b {r} h k D =
+    T_ext r (all n equal) (λ t. all_of n equal (λ p l. eq_same_z (first a p l ∙ ap (λ l. at l p) (D.0 (T_true r t)) ∙ sym (first b p l))))
+    (λ t. subst T (sym (D.1 (ext_get_or (pos 0) (take n a) (take n b) (length-take-le n a h ∙ sym (length-take-le n b k))
+    (λ p q. let l : p < n = omega (arith, q, length-take-le n a h) in sym (first a p l) ∙ eq_z_eq (at a p) (at b p) (all_at n equal t p l) ∙ first b p l)))) tt)
+  where
+    equal : ℕ → Bool
+    equal p = eq_z (at a p) (at b p)
+
+    first : (l : List ℤ) (p : ℕ) → p < n → at l p ≡ at (take n l) p
+    first l p h = sym (get_or-take n l p (pos 0) h)
+
+    eq_same_z : {x y : ℤ} → x ≡ y → T (eq_z x y)
+    eq_same_z {x} e = subst (λ (z : ℤ). T (eq_z x z)) e (eq_z_refl x)
 
 module _ (c : Settings) (t : Table) (book : List ℤ) (Q : Comparable c t book) {sheet : List ℤ} (clear : sheet ≡ replicate (2 * c.C) (pos 0)) where
   abbrev reading : ℕ → Reading

@@ -1,3 +1,4 @@
+pub mod Pieces
 pub mod Few
 pub mod Light
 pub mod Sheets

@@ -2,10 +2,7 @@
 // points that are stored, on a sheet of the function's own, and the sheet is compared with the sums.
 #![tactic(auto)]
 
-ghost use Rattle.std.specs.Prelude.{◌≡◌, ◌*◌, ◌≤◌, pos, length, replicate};
-ghost use Rattle.whole.specs.Sum.{all};
-ghost use Rattle.whole.specs.Lists.{at};
-ghost use Rattle.index.specs.Keys.{eq_z};
+ghost use Rattle.std.specs.Prelude.{◌≡◌, ◌*◌, pos, replicate};
 ghost use Rattle.table.specs.Reading.{reading_of, shares};
 ghost use Rattle.table.specs.Heads.{settings, table};
 ghost use Rattle.book.specs.Book.{entry_of, sums_theirs};
@@ -34,9 +31,16 @@ pub fn spread_reading(
     let d = head.d;
     let n = d + 1;
     let simplex = enclose(&reading[0..n], d, head.fineness);
-    let weights = simplex.weights;
     let value = reading[n];
-    lift_shares(head, keys, index, sheet, &weights, &simplex.coords, value)
+    lift_shares(
+        head,
+        keys,
+        index,
+        sheet,
+        &simplex.weights,
+        &simplex.coords,
+        value,
+    )
 }
 
 // All readings of the book, one after the other; answers how many of their points are missing. The
@@ -47,28 +51,10 @@ fn spread_book(head: Head, keys: &[i32], index: &[u16], sheet: &mut [i64], book:
 {
     let width = head.d + 3;
     let mut missing = 0;
-    for j in 0..head.readings {
-        let entry = width * j;
-        let start = entry + 1;
-        let end = entry + width;
-        missing = missing + spread_reading(head, keys, index, sheet, &book[start..end]);
+    for entry in book[..width * head.readings].chunks_exact(width) {
+        missing += spread_reading(head, keys, index, sheet, &entry[1..]);
     }
     missing
-}
-
-// Whether the first n numbers are the same.
-fn same_numbers(a: &[i64], b: &[i64], n: usize) -> bool
-    requires { (n ≤ length a.now) × (n ≤ length b.now) }
-    ensures { result ≡ all n (λ p. eq_z (at a.now p) (at b.now p)) }
-{
-    for i in 0..n {
-        let x = a[i];
-        let y = b[i];
-        if x != y {
-            return false;
-        }
-    }
-    true
 }
 
 // On a sheet that is 0 the readings leave what they give to each point. A point that is missing
@@ -88,7 +74,8 @@ fn on_sheet(
     if spread_book(head, keys, index, sheet, book) != 0 {
         return false;
     }
-    same_numbers(sums, sheet, 2 * head.points)
+    let places = 2 * head.points;
+    sums[..places] == sheet[..places]
 }
 
 // The lent sums are read only, so the sheet is an array of this function: room for the pairs of

@@ -30,10 +30,11 @@ fn lift_row(
 {
     let place = index::search::search(keys, index, head.capacity, key);
     let entry = index[place];
+    // A count from 1: the index is lent, and its 0 says that the place is empty.
     if entry == 0 {
         return 1;
     }
-    raise_pair(sheet, (entry as usize) - 1, mass, value);
+    raise_pair(sheet, usize::from(entry) - 1, mass, value);
     0
 }
 
@@ -58,7 +59,7 @@ fn lift_slot(
     }
     let start = MOST_COORDS * slot;
     let end = start + head.d;
-    let mass = weight as i64;
+    let mass = i64::from(weight);
     let sum = times(weight, value);
     lift_row(head, keys, index, sheet, &coords[start..end], mass, sum)
 }
@@ -79,7 +80,7 @@ pub fn lift_shares(
     let n = head.d + 1;
     let mut missing = 0;
     for slot in 0..n {
-        missing = missing + lift_slot(head, keys, index, sheet, weights, coords, value, slot);
+        missing += lift_slot(head, keys, index, sheet, weights, coords, value, slot);
     }
     missing
 }

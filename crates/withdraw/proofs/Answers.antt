@@ -3,11 +3,10 @@ use mathlib.Core.Path.{◌≡◌, refl, sym, ap, ◌∙◌}
 use mathlib.Core.Logic.{◌≢◌}
 use mathlib.Core.Bool.{Bool, true, false, not, cond}
 use mathlib.Core.List.{List, [], ◌∷◌}
-use Prim.Native.Nat.{ℕ, zero, suc, ◌-◌, ◌<◌}
+use Prim.Native.Nat.{ℕ, zero, suc, ◌-◌}
 use native.Mathlib.Omega.{arith}
 use lib.Dec.{eqb, eqb-suc-zero}
 use lib.IntN.{ℤ}
-use borrow.Author.Tests.{ne_eqb}
 use Rattle.whole.proofs.Tests.{and_l}
 use Rattle.lattice.specs.Refusals.{first, number_not_held}
 use Rattle.lattice.proofs.Tests.{all_pass, first_stops, first_passes}
@@ -22,7 +21,6 @@ use Rattle.book.specs.Calls.{all_fit, call_tests, call_refusal, withdraw_refusal
 use Rattle.book.specs.Heads.{booked, HoldsBook, AnswersBook}
 use Rattle.book.specs.Theorems.{FineBook}
 use Rattle.book.proofs.Booking.{fine_of}
-use Rattle.withdraw.proofs.Downward.{place_down, sought_low}
 
 -- ---- a number is held where an entry has it
 held_place : (n : ℕ) (f : ℕ → ℤ) (k : ℤ) → among n f k ≡ not (eqb (entry_with n f k) 0)
@@ -60,20 +58,16 @@ module _ (c : Settings) (b : Booked) (k : ℤ) where
     unfolding call_refusal withdraw_refusal
     by_number = first_passes (call_tests c b true) _ tt e
 
-    module _ {place : ℕ} (p : place ≡ entry_with b.table.n (number_at c.d b.book) k) where
-      is_held : holds_number c b k ≡ not (eqb place 0)
-      is_held = held_place b.table.n (number_at c.d b.book) k ∙ ap (λ (x : ℕ). not (eqb x 0)) (sym p)
+    is_held : {place : ℕ} → place ≡ entry_with b.table.n (number_at c.d b.book) k → holds_number c b k ≡ not (eqb place 0)
+    is_held p = held_place b.table.n (number_at c.d b.book) k ∙ ap (λ (x : ℕ). not (eqb x 0)) (sym p)
 
-      told_none : place ≡ 0 → withdraw_refusal c b k ≡ number_not_held
-      unfolding first
-      told_none z = by_number ∙ ap (λ (x : Bool). first ((x, number_not_held) ∷ [])) (is_held ∙ ap (λ (x : ℕ). not (eqb x 0)) z)
+    told_none : 0 ≡ entry_with b.table.n (number_at c.d b.book) k → withdraw_refusal c b k ≡ number_not_held
+    unfolding first
+    told_none p = by_number ∙ ap (λ (x : Bool). first ((x, number_not_held) ∷ [])) (is_held p)
 
-      told_done : place ≢ 0 → withdraw_refusal c b k ≡ 0
-      unfolding first
-      told_done n = by_number ∙ ap (λ (x : Bool). first ((x, number_not_held) ∷ [])) (is_held ∙ ap not (ne_eqb place 0 n))
-
-      pub entry_low : place ≢ 0 → place - 1 < b.table.n
-      entry_low n = sought_low (place_down (number_at c.d b.book) k) b.table.n (place - 1) (sym p ∙ omega (arith, n))
+    told_done : {j : ℕ} → suc j ≡ entry_with b.table.n (number_at c.d b.book) k → withdraw_refusal c b k ≡ 0
+    unfolding first
+    told_done {j} p = by_number ∙ ap (λ (x : Bool). first ((x, number_not_held) ∷ [])) (is_held p ∙ ap not (eqb-suc-zero j))
 
 -- ---- what it answers
 module _ (h : Head) (keys sums : List ℤ) (index : List ℕ) (book : List ℤ) (k : ℤ) where
@@ -102,20 +96,24 @@ module _ (h : Head) (keys sums : List ℤ) (index : List ℕ) (book : List ℤ) 
   pub refused : (x : ℕ) → x ≡ call_refusal c b true → x ≢ 0 → Withdraws x h keys sums index book
   refused x e n = stays x (told_before c b k e n) n
 
-  module _ (e : call_refusal c b true ≡ 0) {place : ℕ} (p : place ≡ entry_with b.table.n (number_at c.d b.book) k) where
-    pub not_held : place ≡ 0 → Withdraws number_not_held h keys sums index book
-    not_held z = stays number_not_held (told_none c b k e p z) (λ y. omega (arith, y))
+  module _ (e : call_refusal c b true ≡ 0) where
+    pub not_held : 0 ≡ entry_with b.table.n (number_at c.d b.book) k → Withdraws number_not_held h keys sums index book
+    not_held p = stays number_not_held (told_none c b k e p) (λ y. omega (arith, y))
 
-    pub done : place ≢ 0 → {points : ℕ} {keys' sums' : List ℤ} {index' : List ℕ} {book' : List ℤ} → HoldsBook (without c b (place - 1)) points keys' sums' index' book'
+    pub done : {j : ℕ} → suc j ≡ entry_with b.table.n (number_at c.d b.book) k
+        → {points : ℕ} {keys' sums' : List ℤ} {index' : List ℕ} {book' : List ℤ} → HoldsBook (without c b j) points keys' sums' index' book'
         → {h' : Head} → h' ≡ with_counts h (h.readings - 1) points → Withdraws 0 h' keys' sums' index' book'
     unfolding withdrawn
-    done n L q = let a : without c b (place - 1) ≡ after_withdraw c b k = ap (λ (x : ℕ). without c b (x - 1)) p ∙ sym (withdraw_done c b k (told_done c b k e p n)) in record {
-      answers = record {
-        number_is = sym (told_done c b k e p n);
-        head_is = q ∙ ap (with_counts h (h.readings - 1)) L.holds.points_are ∙ ap (λ (u : Booked). with_counts h u.table.n u.table.m) a;
-        keys_are = L.holds.keys_are ∙ ap (λ (u : Booked). u.table.keys) a;
-        sums_are = L.holds.sums_are ∙ ap (λ (u : Booked). u.table.sums) a;
-        index_are = L.holds.index_are ∙ ap (λ (u : Booked). u.table.index) a;
-      };
-      book_is = L.book_is ∙ ap (λ (u : Booked). u.book) a;
-    }
+    done {j} p {points} L q =
+        let is_j : j ≡ entry_with b.table.n (number_at c.d b.book) k - 1 = omega (arith, p) in
+        let a : without c b j ≡ after_withdraw c b k = ap (without c b) is_j ∙ sym (withdraw_done c b k (told_done c b k e p)) in
+        record {
+          answers = record {
+            number_is = sym (told_done c b k e p);
+            head_is = q ∙ ap (with_counts h (h.readings - 1)) L.holds.points_are ∙ ap (λ (u : Booked). with_counts h u.table.n u.table.m) a;
+            keys_are = L.holds.keys_are ∙ ap (λ (u : Booked). u.table.keys) a;
+            sums_are = L.holds.sums_are ∙ ap (λ (u : Booked). u.table.sums) a;
+            index_are = L.holds.index_are ∙ ap (λ (u : Booked). u.table.index) a;
+          };
+          book_is = L.book_is ∙ ap (λ (u : Booked). u.book) a;
+        }

@@ -3,7 +3,7 @@ use mathlib.Core.Path.{◌≡◌, refl, sym, ap, ◌∙◌}
 use mathlib.Core.Logic.{◌≢◌}
 use mathlib.Core.Bool.{Bool, true, false, cond}
 use mathlib.Core.List.{List}
-use Prim.Native.Nat.{ℕ, zero, suc, ◌-◌, ◌<◌}
+use Prim.Native.Nat.{ℕ, zero, suc, ◌-◌, ◌≤◌, ◌<◌}
 use native.Mathlib.Omega.{arith}
 use lib.IntN.{ℤ}
 use Rattle.whole.proofs.Tests.{T_true, T_false}
@@ -35,25 +35,22 @@ sought_low {f} {test} D (suc n) j e = go (test n) (sym (D.step n) ∙ e) (sought
 
 -- ---- none of those from `left` on passes the test
 module _ {f : ℕ → ℕ} {test : ℕ → Bool} (D : Downward f test) (n left : ℕ) (inv : f n ≡ f left) where
-  pub sought_none : left ≡ 0 → 0 ≡ f n
-  sought_none e = sym (inv ∙ ap f e ∙ D.none)
+  pub sought_none : left ≤ 0 → 0 ≡ f n
+  sought_none e = let z : left ≡ 0 = omega arith in sym (inv ∙ ap f z ∙ D.none)
 
-  module _ (some : left ≢ 0) where
-    up : left ≡ suc (left - 1)
-    up = omega (arith, some)
-
+  module _ (some : 0 < left) where
     step : f n ≡ cond (test (left - 1)) (suc (left - 1)) (f (left - 1))
-    step = inv ∙ ap f up ∙ D.step (left - 1)
+    step = let up : left ≡ suc (left - 1) = omega arith in inv ∙ ap f up ∙ D.step (left - 1)
 
-    pub sought_here : test (left - 1) ≡ true → left ≡ f n
-    sought_here e = sym (step ∙ ap (λ (b : Bool). cond b (suc (left - 1)) (f (left - 1))) e ∙ sym up)
+    pub sought_here : test (left - 1) ≡ true → suc (left - 1) ≡ f n
+    sought_here e = sym (step ∙ ap (λ (b : Bool). cond b (suc (left - 1)) (f (left - 1))) e)
 
     pub sought_below : test (left - 1) ≡ false → f n ≡ f (left - 1)
     sought_below e = step ∙ ap (λ (b : Bool). cond b (suc (left - 1)) (f (left - 1))) e
 
 -- ---- the same for a number that was compared
-module _ (number : ℕ → ℤ) (k : ℤ) (n left : ℕ) (inv : entry_with n number k ≡ entry_with left number k) (some : left ≢ 0) where
-  pub place_here : number (left - 1) ≡ k → left ≡ entry_with n number k
+module _ (number : ℕ → ℤ) (k : ℤ) (n left : ℕ) (inv : entry_with n number k ≡ entry_with left number k) (some : 0 < left) where
+  pub place_here : number (left - 1) ≡ k → suc (left - 1) ≡ entry_with n number k
   place_here e = sought_here (place_down number k) n left inv some (T_true (eq_z (number (left - 1)) k) (rw e (eq_z_refl k)))
 
   pub place_below : number (left - 1) ≢ k → entry_with n number k ≡ entry_with (left - 1) number k

@@ -3,15 +3,15 @@ use mathlib.Core.Path.{◌≡◌, refl, sym, ap, subst, ◌∙◌}
 use mathlib.Core.Logic.{◌≢◌}
 use mathlib.Core.Bool.{Bool, true, false, cond}
 use mathlib.Core.List.{List, [], ◌∷◌, ◌++◌}
-use Prim.Native.Nat.{ℕ, zero, suc, ◌+◌, ◌*◌, ◌-◌, ◌≤◌, ◌<◌}
+use Prim.Native.Nat.{ℕ, zero, suc, ◌+◌, ◌*◌, ◌-◌, ◌<◌}
 use native.Mathlib.Numerals.{add-one}
 use native.Mathlib.Omega.{arith}
 use lib.IntN.{ℤ, pos}
-use lib.ListN.{length, replicate, length-replicate}
+use lib.ListN.{replicate, length-replicate}
 use Rattle.whole.specs.Lists.{at, splice, collect}
 use Rattle.whole.proofs.Tests.{T_true, T_false}
 use Rattle.index.specs.Keys.{eq_z, key_at}
-use Rattle.index.proofs.Equality.{eq_z_eq, eq_z_refl, stretch_fits}
+use Rattle.index.proofs.Equality.{eq_z_eq, eq_z_refl}
 use Rattle.table.specs.Table.{Settings, Table, key, mass}
 use Rattle.table.specs.Sound.{Shape}
 use Rattle.table.specs.Pour.{set_pair}
@@ -31,44 +31,32 @@ unfolding leave_keys
 leave_append c [] b t = refl
 leave_append c (k ∷ a) b t = leave_append c a b (leave_at c t (point_of t.m (key c t) k))
 
--- ---- one key: `place` is what the search for its point answers
-module _ (c : Settings) (m : ℕ) (keys sums : List ℤ) (k : List ℤ) (ks : List (List ℤ)) (one : ks ≡ k ∷ []) (place : ℕ) (f : place ≡ point_of m (key_at c.d keys) k) where
+-- ---- one key
+module _ (c : Settings) (m : ℕ) (keys sums : List ℤ) (k : List ℤ) (ks : List (List ℤ)) (one : ks ≡ k ∷ []) where
   abbrev here : Table
   here = unindexed m keys sums
 
-  leave_one : leave_keys c here ks ≡ leave_at c here place
+  leave_one : {place : ℕ} → place ≡ point_of m (key_at c.d keys) k → leave_keys c here ks ≡ leave_at c here place
   unfolding leave_keys
-  leave_one = ap (leave_keys c here) one ∙ ap (leave_at c here) (sym f)
+  leave_one f = ap (leave_keys c here) one ∙ ap (leave_at c here) (sym f)
 
   -- no point has it
-  pub stays_unstored : place ≡ 0 → here ≡ leave_keys c here ks
-  stays_unstored z = sym (leave_one ∙ ap (leave_at c here) z)
+  pub stays_unstored : 0 ≡ point_of m (key_at c.d keys) k → here ≡ leave_keys c here ks
+  stays_unstored f = sym (leave_one f)
 
   -- point i has it
-  module _ (some : place ≢ 0) where
-    up : place ≡ suc (place - 1)
-    up = omega (arith, some)
+  module _ {i : ℕ} (f : suc i ≡ point_of m (key_at c.d keys) k) where
+    pub stays_heavy : mass here i ≢ pos 0 → here ≡ leave_keys c here ks
+    stays_heavy n = sym (leave_one f ∙ ap (λ (b : Bool). cond b (vacated c here i) here) (T_false (eq_z (mass here i) (pos 0)) (λ u. n (eq_z_eq (mass here i) (pos 0) u))))
 
-    pub point_inside : place - 1 < m
-    point_inside = sought_low (point_down (key_at c.d keys) k) m (place - 1) (sym f ∙ up)
-
-    by_mass : leave_keys c here ks ≡ cond (eq_z (mass here (place - 1)) (pos 0)) (vacated c here (place - 1)) here
-    by_mass = leave_one ∙ ap (leave_at c here) up
-
-    pub stays_heavy : mass here (place - 1) ≢ pos 0 → here ≡ leave_keys c here ks
-    stays_heavy n = sym (by_mass ∙ ap (λ (b : Bool). cond b (vacated c here (place - 1)) here) (T_false (eq_z (mass here (place - 1)) (pos 0)) (λ u. n (eq_z_eq (mass here (place - 1)) (pos 0) u))))
-
-    pub goes : mass here (place - 1) ≡ pos 0 → {keys' sums' : List ℤ}
-        → keys' ≡ splice (splice keys (c.d * (place - 1)) (key_at c.d keys (m - 1))) (c.d * (m - 1)) (replicate c.d (pos 0))
-        → sums' ≡ set_pair (set_pair sums (place - 1) (at sums (2 * (m - 1))) (at sums (2 * (m - 1) + 1))) (m - 1) (pos 0) (pos 0)
+    pub goes : mass here i ≡ pos 0 → {keys' sums' : List ℤ}
+        → keys' ≡ splice (splice keys (c.d * i) (key_at c.d keys (m - 1))) (c.d * (m - 1)) (replicate c.d (pos 0))
+        → sums' ≡ set_pair (set_pair sums i (at sums (2 * (m - 1))) (at sums (2 * (m - 1) + 1))) (m - 1) (pos 0) (pos 0)
         → unindexed (m - 1) keys' sums' ≡ leave_keys c here ks
     unfolding vacated
-    goes z p q = (λ i. unindexed (m - 1) (p i) (q i)) ∙ sym (by_mass ∙ ap (λ (b : Bool). cond b (vacated c here (place - 1)) here) (T_true (eq_z (mass here (place - 1)) (pos 0)) (rw z (eq_z_refl (pos 0)))))
+    goes z p q = (λ i. unindexed (m - 1) (p i) (q i)) ∙ sym (leave_one f ∙ ap (λ (b : Bool). cond b (vacated c here i) here) (T_true (eq_z (mass here i) (pos 0)) (rw z (eq_z_refl (pos 0)))))
 
 -- ---- what is left has its lengths, and room
-pub last_fits : (c : Settings) (t : Table) → PointsIn c t → 0 < t.m → c.d * (t.m - 1) + c.d ≤ length t.keys
-last_fits c t P h = stretch_fits c.d (t.m - 1) c.C (length t.keys) (omega (arith, P.room)) (omega (arith, P.keys_size))
-
 vacated_in : (c : Settings) (t : Table) (i : ℕ) → i < t.m → PointsIn c t → PointsIn c (vacated c t i)
 unfolding vacated
 vacated_in c t i l P = record { d_most = P.d_most; C_most = P.C_most; room = omega (arith, P.room); keys_size = S.keys; sums_size = S.sums }
@@ -109,6 +97,3 @@ module _ (c : Settings) (t : Table) (d : ℕ) (ws : List ℕ) (cs : List ℤ) wh
       where
         more : keys_to d ws cs (j + 1) ≡ keys_to d ws cs j ++ slot_keys d ws cs j
         more = rw add-one
-
-    pub slots_all : (n : ℕ) → j ≡ n → unindexed p keys sums ≡ leave_keys c t (keys_to d ws cs n)
-    slots_all n q = e ∙ ap (λ (i : ℕ). leave_keys c t (keys_to d ws cs i)) q

@@ -1,5 +1,5 @@
 pub mod Named
-pub mod MovedDown
+pub mod ClosedUp
 pub mod Downward
 pub mod Vacated
 pub mod Going

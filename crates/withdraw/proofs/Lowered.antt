@@ -4,8 +4,9 @@ use mathlib.Core.List.{List}
 use Prim.Native.Nat.{ℕ, ◌+◌, ◌*◌, ◌/◌, ◌%◌, ◌≤◌, ◌<◌}
 use native.Mathlib.Decide.{dec_lt}
 use native.Mathlib.Omega.{arith}
-use lib.IntN.{ℤ, pos}
-use lib.ListN.{length, replicate, length-replicate}
+use lib.IntN.{ℤ, pos, ◌-ℤ◌}
+use lib.ListN.{length, take, replicate, length-replicate}
+use lib.Seq.{length-take-le, get_or-take}
 use Rattle.whole.specs.Size.{Abs≤}
 use Rattle.whole.specs.Lists.{at}
 use Rattle.whole.proofs.Lists.{zeros}
@@ -70,9 +71,20 @@ module _ (c : Settings) (t : Table) (l : List ℤ) (Q : Lowerable c t l) where
         let S = (after_all c t.keys t.index rs 0 clear clear_ready (shares_light c (reading_of c.d l) Q.fine.ranged Q.lawful.fair)).small p in
         rw L.left_is (record { abs = omega (arith, S.abs, few, Q.fine.ranged.d_most) })
 
-    pub can_take_off : (2 * t.m ≤ length t.sums) × (2 * t.m ≤ length sheet) × BoundedTo (2 * t.m) t.sums × BoundedTo (2 * t.m) sheet
-    can_take_off = (sums_long, sheet_long, sums_bounded, sheet_bounded)
+    -- as many numbers of it as the points have
+    abbrev lent : List ℤ
+    lent = take (2 * t.m) sheet
 
-    pub now_lowered : {left : List ℤ} → TakenOff (2 * t.m) t.sums sheet left → left ≡ (lowered c t rs).sums
+    lent_size : length lent ≡ 2 * t.m
+    lent_size = length-take-le (2 * t.m) sheet sheet_long
+
+    pub can_take_off : (length lent ≤ length t.sums) × BoundedTo (length lent) t.sums × BoundedTo (length lent) lent
+    can_take_off = rw lent_size (sums_long, sums_bounded, λ p h. rw (get_or-take (2 * t.m) sheet p (pos 0) h) (sheet_bounded p h))
+
+    pub now_lowered : {left : List ℤ} → TakenOff (length lent) t.sums lent left → left ≡ (lowered c t rs).sums
     now_lowered O = is_lowered c t Q.fine.ranged.C_least Q.fine.sound.indexed.sparse rs (2 * most_C) (omega (arith, Q.fine.sound.indexed.sparse.room, Q.fine.ranged.C_most)) sums_long
-        (news_none c t rs Q.stored) L.left_is O
+        (news_none c t rs Q.stored) L.left_is (record {
+          size = O.size;
+          low = λ p h. O.low p (omega (arith, h, lent_size)) ∙ ap (λ (z : ℤ). at t.sums p -ℤ z) (get_or-take (2 * t.m) sheet p (pos 0) h);
+          high = λ p h. O.high p (omega (arith, h, lent_size));
+        })

@@ -1,7 +1,7 @@
 -- What the functions behind `withdraw` compute and ask of one another. No contract that another crate sees cites this file.
-use Rattle.std.specs.Prelude.{◌≡◌, List, [], ◌∷◌, ℕ, ◌+◌, ◌*◌, ◌≤◌, ◌<◌, ℤ, ◌-ℤ◌, length}
+use Rattle.std.specs.Prelude.{◌≡◌, List, [], ◌∷◌, Option, Some, None, ℕ, suc, ◌+◌, ◌*◌, ◌≤◌, ◌<◌, ℤ, ◌-ℤ◌, length}
 use Rattle.whole.specs.Size.{Abs≤}
-use Rattle.whole.specs.Lists.{at, tab}
+use Rattle.whole.specs.Lists.{at}
 use Rattle.lattice.specs.Limits.{most_d, most_C}
 use Rattle.index.specs.Keys.{key_at}
 use Rattle.index.specs.Search.{Searchable}
@@ -11,6 +11,11 @@ use Rattle.table.specs.Reading.{reading_of, shares, Lawful}
 use Rattle.table.specs.Sound.{Fine}
 use Rattle.pour.specs.Inner.{most_share, most_rows}
 use Rattle.book.specs.Withdraw.{point_of, leave_at}
+
+-- which one of many, as the specifications count it: from 1, and 0 for none
+abbrev pub counted : Option ℕ → ℕ
+counted None = 0
+counted (Some i) = suc i
 
 -- ---- a reading's weights subtracted
 -- the first n numbers are within what all rows of a table's readings add
@@ -63,8 +68,3 @@ pub record Renameable (d C m : ℕ) (keys : List ℤ) (index : List ℕ) : Type 
   pub stretches : length keys ≡ d * C
   pub places : length index ≡ 2 * C
   pub apart : (i j : ℕ) → i < m → j < m → key_at d keys i ≡ key_at d keys j → i ≡ j
-
--- ---- the book closed up
--- numbers moved down by so many places; 0 comes where there is none to move
-unfoldable pub moved_down : ℕ → List ℤ → List ℤ
-moved_down by l = tab (length l) (λ p. at l (p + by))

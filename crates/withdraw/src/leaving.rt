@@ -1,6 +1,6 @@
 // Points that leave the table. The index is left as it is: it is made afresh when all have left, so
 // points are found by their keys alone.
-ghost use Rattle.std.specs.Prelude.{◌≡◌, suc, ◌+◌, ◌*◌, ◌≤◌, ◌<◌, pos, length, replicate};
+ghost use Rattle.std.specs.Prelude.{◌≡◌, suc, ◌+◌, ◌*◌, ◌≤◌, ◌<◌, pos, length, replicate, IfSome};
 ghost use Rattle.whole.specs.Lists.{at, splice};
 ghost use Rattle.lattice.specs.Limits.{most_d, most_C};
 ghost use Rattle.index.specs.Keys.{key_at};
@@ -8,48 +8,38 @@ ghost use Rattle.table.specs.Pour.{set_pair};
 ghost use Rattle.table.specs.Heads.{settings};
 ghost use Rattle.shares.specs.Slots.{slot_keys, keys_to, Arrays};
 ghost use Rattle.book.specs.Withdraw.{point_of};
-ghost use Rattle.withdraw.specs.Inner.{unindexed, PointsIn, leave_keys};
+ghost use Rattle.withdraw.specs.Inner.{counted, unindexed, PointsIn, leave_keys};
 
 use index::keys::same_key;
-use lattice::limits::{MOST_COORDS, MOST_D};
+use lattice::limits::MOST_COORDS;
 use pour::pair::set_pair;
-use pour::stretch::{put_key, store_key};
 use table::Head;
 
-// The point that has the key, counted from 1; 0 where none has it.
-fn point_of(keys: &[i32], d: usize, points: usize, key: &[i32]) -> usize
+// The point that has the key.
+fn point_of(keys: &[i32], d: usize, points: usize, key: &[i32]) -> Option<usize>
     requires { (d ≤ most_d) × (points ≤ most_C) × (d * points ≤ length keys.now) }
-    ensures { result ≡ point_of points (key_at d keys.now) key.now }
+    ensures which { counted result ≡ point_of points (key_at d keys.now) key.now }
+    ensures inside { IfSome result (λ i. i < points) }
 {
-    let mut left = points;
-    let found = loop {
-        if left == 0 {
-            break 0;
+    for i in (0..points).rev() {
+        let start = d * i;
+        let end = start + d;
+        if same_key(&keys[start..end], key) {
+            return Some(i);
         }
-        let i = left - 1;
-        let a = d * i;
-        let b = a + d;
-        if same_key(&keys[a..b], key) {
-            break left;
-        }
-        left = i;
-    };
-    found
+    }
+    None
 }
 
-// The key of the last point goes to the place of point i, and 0 to its own. It goes by way of a spare
-// array: the keys are not read and written at once.
+// The key of the last point goes to the place of point i, and 0 to its own.
 fn vacate_key(keys: &mut [i32], d: usize, i: usize, last: usize)
     requires { (d ≤ most_d) × (last < most_C) × (i ≤ last) × (d * last + d ≤ length keys.old) }
     ensures { keys.new ≡ splice (splice keys.old (d * i) (key_at d keys.old last)) (d * last) (replicate d (pos 0)) }
 {
-    let zeros = [0i32; MOST_D];
-    let mut spare = [0i32; MOST_D];
-    let a = d * last;
-    let b = a + d;
-    put_key(&mut spare[0..d], &keys[a..b]);
-    store_key(keys, &spare[0..d], i);
-    store_key(keys, &zeros[0..d], last);
+    let start = d * last;
+    let end = start + d;
+    keys.copy_within(start..end, d * i);
+    keys[start..end].fill(0);
 }
 
 // The pair of the last point goes to point i, and 0 to its own.
@@ -89,11 +79,9 @@ fn leave_slot(
     let d = head.d;
     let start = MOST_COORDS * slot;
     let end = start + d;
-    let place = point_of(keys, d, points, &coords[start..end]);
-    if place == 0 {
+    let Some(i) = point_of(keys, d, points, &coords[start..end]) else {
         return points;
-    }
-    let i = place - 1;
+    };
     let mass = sums[2 * i];
     if mass != 0 {
         return points;

@@ -37,14 +37,13 @@ pub fn withdraw(
     if told != 0 {
         return Answer { number: told, head };
     }
-    let place = entry_with(book, head.d, head.readings, number);
-    if place == 0 {
+    let Some(j) = entry_with(book, head.d, head.readings, number) else {
         return Answer {
             number: NUMBER_NOT_HELD,
             head,
         };
-    }
-    let points = take_back(head, keys, sums, index, book, place - 1);
+    };
+    let points = take_back(head, keys, sums, index, book, j);
     Answer {
         number: 0,
         head: with_counts(head, head.readings - 1, points),

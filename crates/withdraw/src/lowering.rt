@@ -9,15 +9,13 @@ use lattice::limits::MOST_CAPACITY;
 use spread::spread_reading;
 use table::Head;
 
-// The first n numbers of a sheet, subtracted.
-fn take_off(sums: &mut [i64], sheet: &[i64], n: usize)
-    requires { (n ≤ length sums.old) × (n ≤ length sheet.now) × BoundedTo n sums.old × BoundedTo n sheet.now }
-    ensures { TakenOff n sums.old sheet.now sums.new }
+// The numbers of a sheet, subtracted.
+fn take_off(sums: &mut [i64], sheet: &[i64])
+    requires { (length sheet.now ≤ length sums.old) × BoundedTo (length sheet.now) sums.old × BoundedTo (length sheet.now) sheet.now }
+    ensures { TakenOff (length sheet.now) sums.old sheet.now sums.new }
 {
-    for i in 0..n {
-        let x = sums[i];
-        let y = sheet[i];
-        sums[i] = x - y;
+    for (i, x) in sheet.iter().enumerate() {
+        sums[i] -= *x;
     }
 }
 
@@ -30,5 +28,5 @@ pub fn lower(head: Head, keys: &[i32], sums: &mut [i64], index: &[u16], reading:
 {
     let mut sheet = [0i64; 2 * MOST_CAPACITY];
     spread_reading(head, keys, index, &mut sheet, reading);
-    take_off(sums, &sheet, 2 * head.points);
+    take_off(sums, &sheet[..2 * head.points]);
 }

@@ -1,4 +1,5 @@
 -- The search for the row's key, then nothing or one store.
+use mathlib.Core.Path.{sym}
 use native.Mathlib.Omega.{arith}
 use Rattle.table.specs.Table.{Row}
 use Rattle.table.specs.Heads.{settings}
@@ -24,4 +25,4 @@ returns-then-entry-eq0 c =
 
 pub returns : goal.returns
 returns c =
-    lifted (settings c.args.head) _ _ _ (the (goal.at.returns c).Start) c.requires c.search-place.ensures (λ y. let z = c.if-entry-eq0.false in omega arith) c.ranges.mass c.ranges.value c.raise_pair.ensures
+    lifted (settings c.args.head) _ _ _ (the (goal.at.returns c).Start) c.requires c.search-place.ensures (λ y. let z = c.if-entry-eq0.false in omega arith) c.ranges.mass c.ranges.value (rw (sym c.from.ensures) c.raise_pair.ensures)

@@ -1,13 +1,10 @@
 -- The row of the slot, as the call has it.
-use native.Mathlib.Omega.{arith}
 use mathlib.Core.Path.{◌≡◌, refl, sym, ap, ◌∙◌}
 use lib.IntN.{ℤ, pos, ◌*ℤ◌}
 use lib.ListN.{get_or}
 use mir.Syntax.{w64}
 use mir.Val.{SFits, to_z, of_z}
 use mir.Facts.{to_z-of_z}
-use Rattle.whole.proofs.Parts.{zin}
-use Rattle.whole.proofs.Signed.{zlow, zeq}
 use Rattle.shares.proofs.Slots.{slot_none, slot_one}
 use Rattle.spread.proofs.Sheets.{lifts_none, lifts_as}
 use Rattle.spread.proofs.Slots.{slot_row}
@@ -21,8 +18,8 @@ returns-then-weight-eq0 c = let a = c.args in
 abbrev product : After-lift_row-arg-2-1 → ℤ
 product c = to_z w64 (of_z w64 c.times-sum.result)
 
-mass_is : (c : After-lift_row-arg-2-1) → let a = c.args in to_z w64 (get_or a.weights.now a.slot 0) ≡ pos (get_or a.weights.now a.slot 0)
-mass_is c = let l = c.requires.slots_to_lift.arrays.light c.args.slot in zeq (search zlow depth 14) (omega (arith, zin))
+mass_is : (c : After-lift_row-arg-2-1) → let a = c.args in to_z w64 (of_z w64 c.from-mass.result) ≡ pos (get_or a.weights.now a.slot 0)
+mass_is c = to_z-of_z {w = w64} (record { sfits = c.from-mass.type_inv }) ∙ c.from-mass.ensures
 
 value_is : (c : After-lift_row-arg-2-1) → let a = c.args in product c ≡ pos (get_or a.weights.now a.slot 0) *ℤ a.value
 value_is c =

@@ -1,26 +1,28 @@
-use borrow.Author.Rules.{rules}
-use mathlib.Core.Path.{sym, subst, ◌∙◌}
-use Prim.Native.Nat.{◌*◌}
-use native.Mathlib.Omega.{arith}
-use lib.IntN.{ℤ}
-use lib.ListN.{length-set}
+use Rattle.std.proofs.Common.{◌*◌, ℤ, sym, subst, arith}
 use Rattle.whole.specs.Size.{Abs≤}
 use Rattle.whole.specs.Lists.{at}
 use Rattle.whole.proofs.Parts.{zin}
-use Rattle.whole.proofs.Signed.{zlin, zeq}
+use Rattle.whole.proofs.Signed.{zlin, zeq, zfits}
 use Rattle.pour.specs.Inner.{most_share, most_rows}
-use Rattle.withdraw.proofs.Off.{off_more}
+use Rattle.withdraw.proofs.Off.{off_none, off_more, off_all}
 use Rattle.withdraw.proofs.lowering.take_off.Goals as goal
+
+pub loop-i-init : goal.loop-i-init
+loop-i-init c = off_none c.args.sums.now c.args.sheet.now
+
+pub overflow_sub-sums : goal.overflow_sub-sums
+overflow_sub-sums c =
+    let l = c.loop-i in
+    let a : Abs≤ (at l.sums l.i) (most_share * most_rows) = subst (λ (z : ℤ). Abs≤ z (most_share * most_rows)) (sym (l.invariant.high l.i (omega arith))) (c.requires.1 l.i c.loop-i-test.true) in
+    let b : Abs≤ (at c.args.sheet.now l.i) (most_share * most_rows) = c.requires.2 l.i c.loop-i-test.true in
+    zfits (search zlin depth 14) (omega (arith, zin))
 
 pub loop-i-preserved : goal.loop-i-preserved
 loop-i-preserved c =
-    let first : let l = c.loop-i in Abs≤ (at l.sums l.i) (most_share * most_rows) = let l = c.loop-i in subst (λ (z : ℤ). Abs≤ z (most_share * most_rows)) (sym (l.invariant.2.high l.i (omega arith))) (c.requires.2 l.i (search rules)) in
-    let second : let l = c.loop-i in Abs≤ (at c.args.sheet.now l.i) (most_share * most_rows) = let l = c.loop-i in c.requires.3 l.i (search rules) in
     let l = c.loop-i in
-    let a = first in
-    let b = second in (
-      search rules,
-      length-set l.sums l.i _ ∙ l.invariant.1,
-      off_more c.args.sums.now c.args.sheet.now l.sums l.i _ l.invariant.2 (search rules)
-          (zeq (search zlin depth 14) (omega (arith, zin))),
-    )
+    let a : Abs≤ (at l.sums l.i) (most_share * most_rows) = subst (λ (z : ℤ). Abs≤ z (most_share * most_rows)) (sym (l.invariant.high l.i (omega arith))) (c.requires.1 l.i c.loop-i-test.true) in
+    let b : Abs≤ (at c.args.sheet.now l.i) (most_share * most_rows) = c.requires.2 l.i c.loop-i-test.true in
+    off_more c.args.sums.now c.args.sheet.now l.sums l.i _ l.invariant (omega (arith, c.requires.0)) (zeq (search zlin depth 14) (omega (arith, zin)))
+
+pub returns : goal.returns
+returns c = let l = c.loop-i in off_all _ c.args.sums.now c.args.sheet.now l.sums l.i l.invariant (omega arith)
