@@ -1,56 +1,23 @@
--- The numbers of a line: as they are read back from their bits, and those of a point, which are stored one after the other into an array of
--- zeros. Assumes nothing.
-use mathlib.Core.Path.{◌≡◌, ap, ap₂, sym, ◌∙◌}
+-- The numbers of a point's line, which are stored one after the other into an array of zeros. Assumes nothing.
+use mathlib.Core.Path.{◌≡◌, ap, sym, ◌∙◌}
 use mathlib.Core.List.{List, [], ◌∷◌, ◌++◌, append_assoc}
 use Prim.Native.Nat.{ℕ, suc, ◌+◌, ◌*◌, ◌-◌, ◌≤◌, ◌<◌}
 use native.Mathlib.Nat.{mul-le-mul_left}
 use native.Mathlib.Numerals.{add-one}
 use native.Mathlib.Omega.{arith}
 use lib.IntN.{ℤ, pos, neg_ℤ}
-use lib.ListN.{length, set, take, replicate, length-append}
-use lib.Seq.{set_at, take_at}
-use mir.Syntax.{w8, w32, w64}
-use mir.Val.{to_z, of_z, Fits, SFits}
-use mir.ValLaws.{to_z_pos}
+use lib.ListN.{length, set, take, drop, replicate, length-append}
+use lib.Seq.{set_at, get_or-take, get_or-drop}
 use Rattle.whole.specs.Sum.{sum, over}
 use Rattle.whole.specs.Lists.{at, tab}
 use Rattle.whole.proofs.Lists.{length_tab, get_or_tab}
-use Rattle.whole.proofs.Parts.{zin}
-use Rattle.whole.proofs.Signed.{zlin, zeq}
 use Rattle.whole.proofs.Sum.{sum_cong, sum_list}
 use Rattle.lattice.specs.Limits.{most_d}
 use Rattle.index.specs.Keys.{key_at}
 use Rattle.table.specs.Table.{Settings, Table, whole}
-use Rattle.table.specs.declared.Head.{Head}
 use Rattle.table.proofs.Lists.{tab_snoc}
 use Rattle.table.proofs.Good.{whole_size}
-use Rattle.text.specs.Text.{line, Written}
-use Rattle.report.specs.Report.{most_bytes}
-use Rattle.report.specs.Inner.{most_in_line, numbers_at, line_numbers, HeadRoom, Printable, LiesIn}
-
--- ---- a line of numbers that are those asked for
-pub room_for : {x y : List ℤ} (word : List ℕ) (a size : ℕ) → x ≡ y → a + length (line word y) ≤ size → a + length (line word x) ≤ size
-room_for word a size e h = rw e h
-
-pub room_first : {x y : List ℤ} (word : List ℕ) (size : ℕ) → x ≡ y → length (line word y) ≤ size → 0 + length (line word x) ≤ size
-room_first word size e h = rw e (omega arith)
-
-pub written_as : {x y : List ℤ} (buffer : List ℕ) (a : ℕ) (word : List ℕ) (next : ℕ) (after : List ℕ) → x ≡ y
-    → Written buffer a (line word x) next after → Written buffer a (line word y) next after
-written_as buffer a word next after e h = rw e at h
-
--- ---- numbers as they are read back from their bits
-pub answer_numbers : {v : ℤ} {n : ℕ} → SFits w32 v → Fits w8 n → (to_z w64 (of_z w64 (to_z w32 (of_z w32 v))) ∷ to_z w64 n ∷ []) ≡ (v ∷ pos n ∷ [])
-answer_numbers {v} {n} f g = ap₂ (λ (a b : ℤ). a ∷ b ∷ []) (zeq (search zlin depth 14) (omega (arith, zin))) (to_z_pos w64 n (omega arith))
-
-pub refused_numbers : {n a : ℕ} → Fits w8 n → a ≤ most_bytes → (to_z w64 n ∷ to_z w64 a ∷ []) ≡ (pos n ∷ pos a ∷ [])
-refused_numbers {n} {a} f h = ap₂ (λ (a b : ℤ). a ∷ b ∷ []) (to_z_pos w64 n (omega arith)) (to_z_pos w64 a (omega arith))
-
-pub head_numbers : (h : Head) (size : ℕ) → HeadRoom h size → h.fineness < 4294967296
-    → (to_z w64 h.d ∷ to_z w64 h.fineness ∷ to_z w64 h.readings ∷ to_z w64 h.points ∷ [])
-    ≡ (pos h.d ∷ pos h.fineness ∷ pos h.readings ∷ pos h.points ∷ [])
-head_numbers h size r f =
-    rw (to_z_pos w64 h.d (omega arith), to_z_pos w64 h.fineness (omega arith), to_z_pos w64 h.readings (omega arith), to_z_pos w64 h.points (omega arith))
+use Rattle.report.specs.Inner.{most_in_line, numbers_at, line_numbers, Printable, LiesIn}
 
 -- ---- an array of zeros that is filled from the front
 abbrev pub filled : List ℤ → List ℤ
@@ -69,6 +36,12 @@ stored {a} {v} {w} l n e k s h =
 -- ---- the kept coordinates
 abbrev pub kept : List ℤ → ℕ → ℕ → ℤ
 kept keys start j = at keys (start + j)
+
+-- as they stand in the point's stretch of the keys
+pub kept_in : (keys : List ℤ) (start d j : ℕ) → j < d → at (take (start + d - start) (drop start keys)) j ≡ kept keys start j
+kept_in keys start d j h =
+    let q : start + d - start ≡ d = omega arith in
+    rw q (get_or-take d (drop start keys) j (pos 0) h ∙ get_or-drop start keys j (pos 0))
 
 pub one_more_lem : {a : List ℤ} {v : ℤ} (f : ℕ → ℤ) (j : ℕ) → j < most_in_line → a ≡ filled (tab j f) → v ≡ f j → set a j v ≡ filled (tab (j + 1) f)
 one_more_lem f j h e k = stored (tab j f) j e k (length_tab j f) h ∙ ap filled (sym (tab_snoc j f) ∙ ap (λ (n : ℕ). tab n f) (sym (add-one j)))
@@ -118,7 +91,3 @@ module _ (d : ℕ) (keys sums : List ℤ) (i : ℕ) where
       stored (k ++ (mass ∷ [])) (d + 2) (stored k (d + 1) first q n (omega arith)) r n' (omega arith)
       ∙ ap filled (append_assoc k (mass ∷ []) (value ∷ []))
       ∙ ap (λ (n : ℕ). numbers_at d keys sums i ++ replicate (most_in_line - n) (pos 0)) numbers_size
-
-  -- the part of the array that is printed
-  pub part_is : {a : List ℤ} → a ≡ line_numbers d keys sums i → take (d + 3 - 0) a ≡ numbers_at d keys sums i
-  part_is e = rw e (take_at (numbers_at d keys sums i) _ (d + 3 - 0) (numbers_size ∙ omega arith))

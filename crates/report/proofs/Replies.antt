@@ -1,12 +1,11 @@
 -- The lines of a log's queries, written one after the other: one item, the items in turn, and the answers by the sheet of blurred pairs. Assumes nothing.
 use mathlib.Core.Path.{◌≡◌, refl, sym, ap, ap₂, subst, fun_ext, ◌∙◌}
-use mathlib.Core.List.{List, [], ◌∷◌, ◌++◌, append_assoc, append-nil}
-use Prim.Native.Nat.{ℕ, suc, ◌+◌, ◌*◌, ◌-◌, ◌<◌, ◌≤◌}
+use mathlib.Core.List.{List, [], ◌++◌, append_assoc, append-nil}
+use Prim.Native.Nat.{ℕ, suc, ◌+◌, ◌*◌, ◌<◌, ◌≤◌}
 use native.Mathlib.Omega.{arith}
 use lib.IntN.{ℤ}
-use lib.ListN.{length, take, drop, length-append}
+use lib.ListN.{length, take, length-append}
 use lib.Seq.{take_at}
-use types.Run.{miss}
 use Rattle.whole.specs.Lists.{All}
 use Rattle.table.specs.Table.{Settings, Table}
 use Rattle.blur.specs.Blur.{blurred_mass, blurred_value}
@@ -27,9 +26,7 @@ use Rattle.reader.specs.declared.kinds.Meaning.TheVariants.{Reads, Asks, Refuses
 use Rattle.reader.specs.declared.items.Item.{Item}
 use Rattle.reader.specs.declared.items.Item.TheVariants.{Of, End, Refused}
 use Rattle.reader.proofs.Forms.{Stood, Formed, of_form}
-use Rattle.reader.proofs.Arms.{ItemIn, MeaningIn}
 use Rattle.reader.proofs.Walking.{walk_step}
-use Rattle.reader.proofs.Filling.{part_all}
 use Rattle.reader.proofs.Contents.{said_by_lem, query_sized}
 use Rattle.text.specs.Text.{Written}
 use Rattle.text.proofs.Lines.{written_nothing, written_then, written_room}
@@ -54,13 +51,10 @@ module _ {c : Settings} {t : Table} {l : List ℕ} {a : ℕ} {i : Item} {at size
         ∙ ap (λ (b : Settings). suc b.d) (sym R.settings_are)
 
     abbrev part : List ℤ
-    part = take (c.d + 1 - 0) (drop 0 ns)
+    part = take (c.d + 1) ns
 
     part_of : part ≡ values
-    part_of = ap (λ (ns : List ℤ). take (c.d + 1 - 0) (drop 0 ns)) p.after_is ∙ part_all old values (c.d + 1) (omega (arith, asked_size))
-
-    pub query_size : length part ≡ suc c.d
-    query_size = ap length part_of ∙ asked_size
+    part_of = ap (take (c.d + 1)) p.after_is ∙ take_at values _ (c.d + 1) (omega (arith, asked_size))
 
     module _ {value : ℤ} {code : ℕ} (r : ReplyIs c t part value code) where
       line_is : answer_line value code ≡ reply_text c t l a i
@@ -73,20 +67,15 @@ module _ {c : Settings} {t : Table} {l : List ℕ} {a : ℕ} {i : Item} {at size
       query_done w = rw line_is at w
 
 -- an item that is no query adds nothing
-no_text : (f : List ℤ → List ℕ) (d : ℕ) (ns : List ℤ) (m : Meaning) → MeaningIn (0 ∷ 2 ∷ []) m → [] ≡ query_text f (said_by m d ns)
+no_text : (f : List ℤ → List ℕ) (d : ℕ) (ns : List ℤ) (m : Meaning) → (m ≡ Asks → ⊥) → [] ≡ query_text f (said_by m d ns)
 no_text f d ns (Reads from) h = refl
-no_text f d ns Asks h = absurd (miss (0 ∷ 2 ∷ []) 1 tt h)
+no_text f d ns Asks h = absurd (h refl)
 no_text f d ns (Refuses x) h = refl
 
-pub no_query : (c : Settings) (t : Table) (l : List ℕ) (a : ℕ) (i : Item) (k : Kind) (o : List ℕ) (at : ℕ) → i ≡ Of k → (m : Meaning) → m ≡ (row_of k.family).means → MeaningIn (0 ∷ 2 ∷ []) m → Written o at (reply_text c t l a i) at o
+pub no_query : (c : Settings) (t : Table) (l : List ℕ) (a : ℕ) (i : Item) (k : Kind) (o : List ℕ) (at : ℕ) → i ≡ Of k → (m : Meaning) → m ≡ (row_of k.family).means → (m ≡ Asks → ⊥) → Written o at (reply_text c t l a i) at o
 no_query c t l a i k o at e m f h =
     subst (λ (x : List ℕ). Written o at x at o)
     (no_text (reply_line c t) k.d (values_of l a (Of k)) m h ∙ ap (query_text (reply_line c t)) (said_by_lem l a k f) ∙ ap (reply_text c t l a) (sym e)) (written_nothing o at)
-
-pub no_item : (c : Settings) (t : Table) (l : List ℕ) (a : ℕ) (i : Item) (o : List ℕ) (at : ℕ) → ItemIn (1 ∷ 2 ∷ []) i → Written o at (reply_text c t l a i) at o
-no_item c t l a (Of k) o at h = absurd (miss (1 ∷ 2 ∷ []) 0 tt h)
-no_item c t l a End o at h = written_nothing o at
-no_item c t l a (Refused x) o at h = written_nothing o at
 
 -- ---- the items in turn
 module _ (c : Settings) (t : Table) (l : List ℕ) where
@@ -164,22 +153,17 @@ module _ {c : Settings} {t : Table} {l : List ℕ} {at size : ℕ} (R : AnswersR
   blurred_size : length first ≡ 2 * c.C
   blurred_size = ap length B.first_is ∙ sheet_length c t (blurred_mass c t) (blurred_value c t) R.printable.fine.sound.indexed.sparse.room
 
-  pub answers_part : (rest : List ℤ) → 2 * c.C ≤ length (first ++ rest)
-  answers_part rest = omega (arith, length-append first rest, blurred_size)
-
   -- as it is lent, from the array that it was made in
-  sheet_is : (rest : List ℤ) → take (2 * c.C - 0) (first ++ rest) ≡ blurred_sheet c t
-  sheet_is rest =
-      let q : 2 * c.C - 0 ≡ 2 * c.C = omega arith in
-      ap (λ (n : ℕ). take n (first ++ rest)) q ∙ take_at first rest (2 * c.C) blurred_size ∙ B.first_is
+  sheet_is : (rest : List ℤ) → take (2 * c.C) (first ++ rest) ≡ blurred_sheet c t
+  sheet_is rest = take_at first rest (2 * c.C) blurred_size ∙ B.first_is
 
   line_same : reply_line c (with_sums t (blurred_sheet c t)) ≡ (λ q. answer_line (answer c t q) (code c t q))
   line_same = fun_ext (λ q. ap₂ answer_line (value_same c t R.printable.fine q) (code_same c t R.printable.fine q))
 
-  lines_same : (rest : List ℤ) (w : Walk) → per_query (reply_line c (with_sums t (take (2 * c.C - 0) (first ++ rest)))) w ≡ answer_lines c t w
+  lines_same : (rest : List ℤ) (w : Walk) → per_query (reply_line c (with_sums t (take (2 * c.C) (first ++ rest)))) w ≡ answer_lines c t w
   lines_same rest w = ap (λ (s : List ℤ). per_query (reply_line c (with_sums t s)) w) (sheet_is rest) ∙ ap (λ (f : List ℤ → List ℕ). per_query f w) line_same
 
-  pub answers_room : (rest : List ℤ) → RepliesRoom c (with_sums t (take (2 * c.C - 0) (first ++ rest))) l at size
+  pub answers_room : (rest : List ℤ) → RepliesRoom c (with_sums t (take (2 * c.C) (first ++ rest))) l at size
   answers_room rest = record {
     smooth = rw (sheet_is rest) (smooth c t R.printable.fine);
     settings_are = R.settings_are;
@@ -187,6 +171,6 @@ module _ {c : Settings} {t : Table} {l : List ℕ} {at size : ℕ} (R : AnswersR
   }
 
   pub answers_done : (rest : List ℤ) {o out : List ℕ} {next : ℕ}
-      → Written o at (per_query (reply_line c (with_sums t (take (2 * c.C - 0) (first ++ rest)))) (walk l after_settings)) next out
+      → Written o at (per_query (reply_line c (with_sums t (take (2 * c.C) (first ++ rest)))) (walk l after_settings)) next out
       → Written o at (answer_lines c t (walk l after_settings)) next out
   answers_done rest w = rw (lines_same rest (walk l after_settings)) at w

@@ -1,12 +1,13 @@
 -- The lines of a table's points, written one after the other in listing order.
-use mathlib.Core.Path.{◌≡◌, ap, ◌∙◌}
+use mathlib.Core.Path.{◌≡◌, ap, sym, subst, ◌∙◌}
 use mathlib.Core.List.{List, ◌++◌, append_assoc}
 use Prim.Native.Nat.{ℕ, zero, suc, ◌+◌, ◌-◌, ◌<◌, ◌≤◌}
 use native.Mathlib.Numerals.{add-one}
 use native.Mathlib.Decide.{dec_le}
 use native.Mathlib.Omega.{arith}
 use lib.IntN.{ℤ}
-use lib.ListN.{length, get_or, replicate, length-append, get_or-append}
+use lib.ListN.{length, take, get_or, replicate, length-append, get_or-append}
+use lib.Seq.{length-take-le, get_or-take}
 use Rattle.whole.specs.Lists.{collect}
 use Rattle.whole.proofs.Lists.{collect_cong}
 use Rattle.table.specs.Table.{Settings, Table}
@@ -43,16 +44,28 @@ module _ {d m : ℕ} {keys sums : List ℤ} {list o : List ℕ} {a : ℕ} (r : R
   row_space h = let g : ℕ → List ℕ = λ j. line_at d keys sums (get_or list j 0) in
       omega (arith, r.space, collect_part g (suc j) m h, length-append (collect j g) (g j))
 
-  pub row_room : j < m → PointRoom d keys sums (get_or list j 0) next (length out)
-  row_room h = record { lies_in = r.each j h; space = written_room (length (line_at d keys sums (get_or list j 0))) p (row_space h) }
+  -- number j of those that are looked at, point i
+  module _ (h : j < length (take m list)) {i : ℕ} (e : i ≡ get_or (take m list) j 0) where
+    row_low : j < m
+    row_low = omega (arith, length-take-le m list r.long)
 
-  pub row_more : {next' : ℕ} {out' : List ℕ} → j < m
-      → Written out next (line_at d keys sums (get_or list j 0)) next' out' → Written o a (lines_in d keys sums list (j + 1)) next' out'
-  unfolding lines_in collect
-  row_more h q = rw add-one (written_then p q (row_space h))
+    is : get_or list j 0 ≡ i
+    is = sym (e ∙ get_or-take m list j 0 row_low)
 
-  pub rows_done : m ≤ j → j ≤ m → Written o a (lines_in d keys sums list m) next out
-  rows_done h k = let e : j ≡ m = omega arith in rw e at p
+    pub row_room : PointRoom d keys sums i next (length out)
+    row_room = subst (λ (i : ℕ). PointRoom d keys sums i next (length out)) is (record {
+      lies_in = r.each j row_low;
+      space = written_room (length (line_at d keys sums (get_or list j 0))) p (row_space row_low);
+    })
+
+    pub row_more : {next' : ℕ} {out' : List ℕ} → Written out next (line_at d keys sums i) next' out' → Written o a (lines_in d keys sums list (j + 1)) next' out'
+    unfolding lines_in collect
+    row_more {next'} {out'} q =
+        rw add-one (written_then p (subst (λ (i : ℕ). Written out next (line_at d keys sums i) next' out') (sym is) q) (row_space row_low))
+
+  -- all of them
+  pub rows_done : length (take m list) ≤ j → j ≤ length (take m list) → Written o a (lines_in d keys sums list m) next out
+  rows_done h k = let e : j ≡ m = omega (arith, length-take-le m list r.long) in rw e at p
 
 -- ---- the listing of a sound table, at the start of the array that it was written into
 module _ {c : Settings} {t : Table} {a size : ℕ} {n : ℕ} {after : List ℕ} (rest : List ℕ)

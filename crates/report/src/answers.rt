@@ -40,8 +40,7 @@ fn put_reply(
     let means = content_at(log, offset, kind, &mut numbers);
     match means {
         Meaning::Asks => {
-            let count = head.d + 1;
-            let reply = reply_at(head, keys, index, sheet, &numbers[0..count]);
+            let reply = reply_at(head, keys, index, sheet, &numbers[..head.d + 1]);
             put_answer(out, at, reply.value, reply.code)
         }
         _ => at,
@@ -64,14 +63,14 @@ fn put_replies(
 {
     let mut next = at;
     let mut offset = AFTER_SETTINGS;
+    // A loop over offsets: an item is answered by the offset that it stands at.
     loop {
         let found = read_at(log, offset);
         // no byte is taken: the items end here
         if found.next == offset {
             break;
         }
-        let item = found.item;
-        next = put_reply(out, next, head, keys, index, sheet, log, offset, item);
+        next = put_reply(out, next, head, keys, index, sheet, log, offset, found.item);
         offset = found.next;
     }
     next
@@ -99,8 +98,8 @@ pub fn put_answers(
         keys,
         sums,
         index,
-        &mut first[0..numbers],
-        &mut second[0..numbers],
+        &mut first[..numbers],
+        &mut second[..numbers],
     );
-    put_replies(out, at, head, keys, index, &first[0..numbers], log)
+    put_replies(out, at, head, keys, index, &first[..numbers], log)
 }

@@ -84,16 +84,14 @@ fn put_log(out: &mut [u8], log: &[u8], d: usize, capacity: usize) -> usize
     let mut sums = [0i64; 2 * MOST_LOG_CAPACITY];
     let mut index = [0u16; 2 * MOST_LOG_CAPACITY];
     let mut book = [0i32; (MOST_D + 3) * BOOK_ROOM];
-    let kept = d * capacity;
     let places = 2 * capacity;
-    let entries = (d + 3) * BOOK_ROOM;
     put_loaded(
         out,
         log,
-        &mut keys[0..kept],
-        &mut sums[0..places],
-        &mut index[0..places],
-        &mut book[0..entries],
+        &mut keys[..d * capacity],
+        &mut sums[..places],
+        &mut index[..places],
+        &mut book[..(d + 3) * BOOK_ROOM],
     )
 }
 

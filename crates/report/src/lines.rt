@@ -17,7 +17,7 @@ pub fn put_head(out: &mut [u8], head: Head) -> usize
 {
     let numbers = [
         head.d as i64,
-        head.fineness as i64,
+        i64::from(head.fineness),
         head.readings as i64,
         head.points as i64,
     ];
@@ -31,15 +31,14 @@ fn point_numbers(head: Head, keys: &[i32], sums: &[i64], i: usize) -> [i64; MOST
     ensures { result ≡ line_numbers head.d keys.now sums.now i }
 {
     let d = head.d;
-    let start = d * i;
     let mut numbers = [0i64; MOST_IN_LINE];
-    let mut total: i64 = 0;
-    for j in 0..d {
-        let kept = keys[start + j] as i64;
+    let mut total = 0;
+    for (j, kept) in keys[d * i..d * i + d].iter().enumerate() {
+        let kept = i64::from(*kept);
         numbers[j] = kept;
-        total = total + kept;
+        total += kept;
     }
-    numbers[d] = 0 - total;
+    numbers[d] = -total;
     numbers[d + 1] = sums[2 * i];
     numbers[d + 2] = sums[2 * i + 1];
     numbers
@@ -58,8 +57,7 @@ pub fn put_point_line(
     ensures { Written out.old at (line_at head.d keys.now sums.now i) result out.new }
 {
     let numbers = point_numbers(head, keys, sums, i);
-    let count = head.d + 3;
-    put_line(out, at, b"POINT", &numbers[0..count])
+    put_line(out, at, b"POINT", &numbers[..head.d + 3])
 }
 
 // ANSWER: value, code.
@@ -67,8 +65,7 @@ pub fn put_answer(out: &mut [u8], at: usize, value: i32, code: u8) -> usize
     requires { at + length (answer_line value code) ≤ length out.old }
     ensures { Written out.old at (answer_line value code) result out.new }
 {
-    let numbers = [value as i64, code as i64];
-    put_line(out, at, b"ANSWER", &numbers)
+    put_line(out, at, b"ANSWER", &[i64::from(value), i64::from(code)])
 }
 
 // REFUSED: number, offset. It is the whole of the text.
@@ -76,6 +73,5 @@ pub fn put_refused(out: &mut [u8], number: u8, offset: usize) -> usize
     requires { RefusedRoom number offset (length out.old) }
     ensures { Written out.old 0 (refused_line number offset) result out.new }
 {
-    let numbers = [number as i64, offset as i64];
-    put_line(out, 0, b"REFUSED", &numbers)
+    put_line(out, 0, b"REFUSED", &[i64::from(number), offset as i64])
 }

@@ -31,9 +31,7 @@ fn refused_opening(number: u8) -> Opening
 pub fn opening_of(log: &[u8]) -> Opening
     ensures { Opens log.now result }
 {
-    let first = read_at(log, 0);
-    let item = first.item;
-    let number = number_of(item);
+    let number = number_of(read_at(log, 0).item);
     if number != 0 {
         return refused_opening(number);
     }

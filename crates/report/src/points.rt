@@ -24,9 +24,8 @@ fn put_rows(
         Written out.old at lines result out.new }
 {
     let mut next = at;
-    for j in 0..head.points {
-        let i = order[j] as usize;
-        next = put_point_line(out, next, head, keys, sums, i);
+    for i in &order[..head.points] {
+        next = put_point_line(out, next, head, keys, sums, usize::from(*i));
     }
     next
 }
@@ -45,7 +44,6 @@ pub fn put_points(
         Written out.old at (point_lines (settings head) t) result out.new }
 {
     let mut order = [0u16; MOST_LOG_CAPACITY];
-    let places = head.capacity;
-    fill(keys, head.d, head.points, &mut order[0..places]);
+    fill(keys, head.d, head.points, &mut order[..head.capacity]);
     put_rows(out, at, head, keys, sums, &order)
 }

@@ -1,4 +1,3 @@
-use Rattle.reader.proofs.Arms.{not_asks}
 use borrow.Author.Rules.{rules}
 use mir.Facts.{to_z-of_z}
 use mir.Syntax.{w32}
@@ -23,4 +22,4 @@ returns-in-Asks c =
 pub returns-in_default-means : goal.returns-in_default-means
 returns-in_default-means c =
     let s = c.args in
-    no_query _ _ s.log.now s.offset s.item _ s.out.now s.at c.in-Of.is _ c.content_at-means.ensures.means_is (not_asks _ c.in_default-means.not-Asks)
+    no_query _ _ s.log.now s.offset s.item _ s.out.now s.at c.in-Of.is _ c.content_at-means.ensures.means_is c.in_default-means.not-Asks

@@ -9,4 +9,4 @@ use Rattle.report.proofs.lines.point_numbers.Given as goal
 
 abbrev pub invariant-loop-j : goal.invariant-loop-j
 invariant-loop-j l =
-    (l.j ≤ l.d) × (l.numbers ≡ filled (tab l.j (kept l.keys l.start))) × (l.total ≡ sum l.j (kept l.keys l.start)) × Abs≤ l.total (l.j * 2147483648)
+    (l.j ≤ l.d) × (l.numbers ≡ filled (tab l.j (kept l.keys (l.d * l.i)))) × (l.total ≡ sum l.j (kept l.keys (l.d * l.i))) × Abs≤ l.total (l.j * 2147483648)
