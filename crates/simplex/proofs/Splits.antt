@@ -1,23 +1,19 @@
 -- Splits of a number by W, into floor and remainder: which pair it is, and the split of a difference from those of its sides.
 use mathlib.Core.Path.{◌≡◌, sym, ap, ◌∙◌}
-use mathlib.Core.List.{List}
 use Prim.Native.Nat.{ℕ, ◌+◌, ◌<◌}
 use native.Mathlib.Omega.{arith}
 use lib.IntN.{ℤ, pos, negsuc, ◌+ℤ◌, ◌-ℤ◌, ◌*ℤ◌}
-use lib.ListN.{set, length-set}
 use lib.Dec.{lit<}
 use lib.Signed.{◌≤ℤ◌, ◌<ℤ◌}
-use Rattle.whole.specs.Size.{Abs≤}
+use Rattle.whole.specs.Size.{P, N, Abs≤}
 use Rattle.whole.specs.Floor.{floor, remainder}
-use Rattle.whole.specs.Lists.{at}
 use Rattle.whole.proofs.Parts.{zin, zout}
 use Rattle.whole.proofs.Linear.{on, difs, ints}
-use Rattle.whole.proofs.Signed.{zlin, W32}
-use Rattle.whole.proofs.Size.{zabs, back32}
-use Rattle.whole.proofs.Lists.{place_more}
+use Rattle.whole.proofs.Signed.{eq_plus, W32}
+use Rattle.whole.proofs.Size.{back32}
 use Rattle.whole.proofs.Floor.{div_rem, remainder_lt, floor_is, remainder_is, floor_p, floor_n}
 use Rattle.lattice.specs.Limits.{farthest}
-use Rattle.simplex.specs.Inner.{Total, SplitOf, joined, Part, Six, SplitsOf}
+use Rattle.simplex.specs.Inner.{SplitOf, joined, Part}
 
 pub split_is : (w : ℕ) (z q r : ℤ) → z ≡ pos w *ℤ q +ℤ r → pos 0 ≤ℤ r → r <ℤ pos w → SplitOf w z q r
 split_is w z q (pos n) e l h = let k : n < w = omega (arith, zin) in record { floor_is = sym (floor_is z q w n k e); rest_is = ap pos (sym (remainder_is z q w n k e)) }
@@ -56,29 +52,20 @@ minus_high w q r q' r' A B h = split_is w (joined w q r -ℤ joined w q' r') (q 
     high : (w : ℕ) (r r' : ℤ) → r <ℤ pos w → pos 0 ≤ℤ r' → (r -ℤ r') <ℤ pos w
     high w = on _ λ a b. on _ λ c d. simp difs (omega ints)
 
--- a split as the machine has it
-pub floor_back : {w : ℕ} {q r : ℤ} → Part w q r → W32 q ≡ q
-floor_back p = back32 p.near (lit< tt)
+-- what keeps W times a floor, and what it leaves, in 32 bits
+pub record Product (w : ℕ) (x q : ℤ) : Type 0 where
+  pub is : q ≡ floor x w
+  pub near : Abs≤ q farthest
+  pub less : remainder x w < w
+  pub parts : P x + (N (pos w *ℤ q) + 0) ≡ (P (pos w *ℤ q) + remainder x w) + N x
 
-pub rest_small : {w : ℕ} {q r : ℤ} → Part w q r → Total w → Abs≤ r 384
-rest_small {w} {q} {r} p t = zabs (search zlin depth 14) (omega (arith, zin))
-
-pub rest_back : {w : ℕ} {q r : ℤ} → Part w q r → Total w → W32 r ≡ r
-rest_back p t = back32 (rest_small p t) (lit< tt)
-
-pub part_back : {w : ℕ} {q r : ℤ} → Part w q r → Total w → Part w (W32 q) (W32 r)
-part_back p t = rw (floor_back p, rest_back p t) p
-
-pub split_cong : {w : ℕ} {a a' b b' c c' d d' q r : ℤ} → a ≡ a' → b ≡ b' → c ≡ c' → d ≡ d' → SplitOf w (joined w a b -ℤ joined w c d) q r → SplitOf w (joined w a' b' -ℤ joined w c' d') q r
-split_cong e f g h S = rw (← e, ← f, ← g, ← h) S
-
--- ---- the splits, filled from the front
-pub splits_none : (w : ℕ) (x : List ℤ) {floors rests : List ℤ} → Six floors rests → SplitsOf w 0 x floors rests
-splits_none w x h = record { six = h; floor_at = λ i l. absurd (omega arith); rest_at = λ i l. absurd (omega arith) }
-
-pub splits_more : (w i : ℕ) (x : List ℤ) {floors rests : List ℤ} {q r : ℤ} → i < 6 → SplitsOf w i x floors rests → q ≡ floor (at x i) w → r ≡ pos (remainder (at x i) w) → SplitsOf w (i + 1) x (set floors i q) (set rests i r)
-splits_more w i x {floors} {rests} {q} {r} h R e f = record {
-  six = record { floors_six = length-set floors i q ∙ R.six.floors_six; rests_six = length-set rests i r ∙ R.six.rests_six };
-  floor_at = place_more (λ t. floor (at x t) w) floors (pos 0) i q (omega (arith, R.six.floors_six)) e R.floor_at;
-  rest_at = place_more (λ t. pos (remainder (at x t) w)) rests (pos 0) i r (omega (arith, R.six.rests_six)) f R.rest_at;
+pub product_of : {w : ℕ} {x q : ℤ} → 0 < w → Abs≤ x farthest → q ≡ floor (W32 x) w → Product w x q
+product_of {w} {x} {q} h k e = record {
+  is = is;
+  near = rw is (part_of w x h k).near;
+  less = remainder_lt x w h;
+  parts = eq_plus x (pos w *ℤ q) (pos (remainder x w)) (rw is (div_rem x w h));
 }
+  where
+    is : q ≡ floor x w
+    is = e ∙ ap (λ (z : ℤ). floor z w) (back32 k (lit< tt))

@@ -1,10 +1,10 @@
 // The corner of a place j: the lattice point of z[i] = floor((x[i] - x[j]) / W), from the splits.
-ghost use Rattle.std.specs.Prelude.{◌≡◌, ◌<◌, max, cond, ltb, pos, ◌-ℤ◌, ◌*ℤ◌, length};
+ghost use Rattle.std.specs.Prelude.{◌≡◌, ◌<◌, cond, ltb, pos, ◌-ℤ◌, ◌*ℤ◌, length};
 ghost use Rattle.whole.specs.Lists.{at};
 ghost use Rattle.lattice.specs.Limits.{most_coords};
 ghost use Rattle.simplex.specs.Inner.{Parts, coordinate, StepsFrom, Span, CornerFrom};
 
-use crate::split::difference;
+use crate::split::{Split, minus};
 use lattice::limits::MOST_COORDS;
 
 // The sum of the floors of the differences from one place, and the greatest of the remainders.
@@ -23,61 +23,40 @@ pub struct Corner {
     pub weight: u32,
 }
 
-fn larger(a: u32, b: u32) -> u32
-    ensures { result ≡ max a b }
-{
-    if a < b { b } else { a }
-}
-
 // One difference a turn: place i from place j. The floors are left in z, where the point is made from
 // them: an array handed back would be copied.
-fn steps_from(
-    floors: &[i32],
-    rests: &[i32],
-    n: usize,
-    w: u32,
-    j: usize,
-    z: &mut [i32; MOST_COORDS],
-) -> Steps
-    requires parts { Parts w n floors.now rests.now }
-    requires j_lt_n { j < n }
+fn steps_from(splits: &[Split], w: u32, j: usize, z: &mut [i32; MOST_COORDS]) -> Steps
+    requires parts { Parts w splits.now }
+    requires j_lt_n { j < length splits.now }
     requires z_len { length z.old ≡ most_coords }
-    ensures { let x = coordinate w floors.now rests.now in
-        StepsFrom w n x j z.new result.total (pos result.spread) }
+    ensures { let x = coordinate w splits.now in
+        StepsFrom w (length splits.now) x j z.new result.total (pos result.spread) }
 {
+    let base = splits[j];
     let mut total = 0;
-    let mut spread = 0;
-    for i in 0..n {
-        let s = difference(floors, rests, i, j, w);
-        let q = s.floor;
-        z[i] = q;
-        total = total + q;
-        spread = larger(spread, s.rest as u32);
+    let mut spread: u32 = 0;
+    for (i, here) in splits.iter().enumerate() {
+        let s = minus(*here, base, w);
+        z[i] = s.floor;
+        total += s.floor;
+        spread = spread.max(s.rest as u32);
     }
     Steps { total, spread }
 }
 
 // The corner of place j, with its floors in z. Its weight is W less the greatest remainder of the
 // differences from j, since those are its residuals up to a constant.
-pub fn corner_of(
-    floors: &[i32],
-    rests: &[i32],
-    n: usize,
-    w: u32,
-    j: usize,
-    z: &mut [i32; MOST_COORDS],
-) -> Corner
-    requires parts { Parts w n floors.now rests.now }
-    requires j_lt_n { j < n }
+pub fn corner_of(splits: &[Split], w: u32, j: usize, z: &mut [i32; MOST_COORDS]) -> Corner
+    requires parts { Parts w splits.now }
+    requires j_lt_n { j < length splits.now }
     requires z_len { length z.old ≡ most_coords }
-    ensures { let x = coordinate w floors.now rests.now in
-        CornerFrom w n x j z.new result.total result.slot result.weight }
+    ensures { let x = coordinate w splits.now in
+        CornerFrom w (length splits.now) x j z.new result.total result.slot result.weight }
 {
-    let s = steps_from(floors, rests, n, w, j, z);
-    let total = s.total;
-    let k = whole::division::remainder_of(-total, n as u32);
+    let s = steps_from(splits, w, j, z);
+    let k = whole::division::remainder_of(-s.total, splits.len() as u32);
     Corner {
-        total,
+        total: s.total,
         slot: k as usize,
         weight: w - s.spread,
     }

@@ -1,17 +1,16 @@
 // The enclosing simplex of a position: its points of weight above 0, a slot for each remainder.
 #![tactic(auto)]
 
-ghost use Rattle.std.specs.Prelude.{◌≡◌, ◌*◌};
-ghost use Rattle.whole.specs.Lists.{splice};
+ghost use Rattle.std.specs.Prelude.{◌≡◌, length};
 ghost use Rattle.lattice.specs.Limits.{most_coords};
-ghost use Rattle.simplex.specs.Inner.{Room, Span, point_of};
+ghost use Rattle.simplex.specs.Inner.{Span, point_of};
 ghost use Rattle.simplex.specs.Slots.{Placed, Encloses};
 
 mod corner;
 mod split;
 
 use crate::corner::{corner_of, point_at};
-use crate::split::put_splits;
+use crate::split::{Split, put_splits};
 use lattice::limits::MOST_COORDS;
 
 // All numbers of the slots: six coordinates for each of six remainders.
@@ -26,14 +25,13 @@ pub struct Simplex {
 }
 
 // The point n * z[i] - total into its slot.
-fn put_point(coords: &mut [i32; SLOT_NUMBERS], slot: usize, z: &[i32], total: i32, n: usize)
-    requires room { Room coords.old slot }
+fn put_point(point: &mut [i32], z: &[i32], total: i32, n: usize)
+    requires six { length point.old ≡ most_coords }
     requires span { Span n z.now total }
-    ensures { coords.new ≡ splice coords.old (most_coords * slot) (point_of n z.now total) }
+    ensures { point.new ≡ point_of n z.now total }
 {
-    let start = MOST_COORDS * slot;
-    for i in 0..MOST_COORDS {
-        coords[start + i] = point_at(z, total, n, i);
+    for (i, c) in point.iter_mut().enumerate() {
+        *c = point_at(z, total, n, i);
     }
 }
 
@@ -46,19 +44,24 @@ pub fn enclose(x: &[i32], d: usize, fineness: u32) -> Simplex
 {
     let n = d + 1;
     let w = (n as u32) * fineness;
-    let mut floors = [0i32; MOST_COORDS];
-    let mut rests = [0i32; MOST_COORDS];
-    put_splits(x, w, &mut floors, &mut rests);
+    let mut splits = [Split { floor: 0, rest: 0 }; MOST_COORDS];
+    put_splits(x, w, &mut splits);
     let mut z = [0i32; MOST_COORDS];
     let mut simplex = Simplex {
         weights: [0u32; MOST_COORDS],
         coords: [0i32; SLOT_NUMBERS],
     };
     for j in 0..n {
-        let c = corner_of(&floors, &rests, n, w, j, &mut z);
+        let c = corner_of(&splits[..n], w, j, &mut z);
         let k = c.slot;
         simplex.weights[k] = c.weight;
-        put_point(&mut simplex.coords, k, &z, c.total, n);
+        let start = MOST_COORDS * k;
+        put_point(
+            &mut simplex.coords[start..start + MOST_COORDS],
+            &z,
+            c.total,
+            n,
+        );
     }
     simplex
 }
