@@ -13,10 +13,7 @@ pub fn keeps_limits(book: &[i32], d: usize, n: usize) -> bool
     ensures { result ≡ all n (λ j. keeps_limits (entry_of d book.now j).reading) }
 {
     let width = d + 3;
-    for entry in book[..width * n].chunks_exact(width) {
-        if own_refusal(d, &entry[1..]).is_err() {
-            return false;
-        }
-    }
-    true
+    book[..width * n]
+        .chunks_exact(width)
+        .all(|entry| own_refusal(d, &entry[1..]).is_ok())
 }

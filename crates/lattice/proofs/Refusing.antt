@@ -1,6 +1,7 @@
 -- What an outcome tells: 0 where nothing is refused, and no refusal has the number 0.
-use Rattle.std.proofs.Common.{◌≡◌, ◌<◌, refl, ℕ, Bool, true, false, Result, Ok, Err, arith}
-use Rattle.std.specs.Result.{is_err}
+use Rattle.std.proofs.Common.{◌≡◌, ◌<◌, ◌∙◌, refl, sym, ap, eqb, ℕ, Bool, true, false, Result, Ok, Err, arith}
+use borrow.Author.Tests.{ne_eqb}
+use Rattle.std.specs.Result.{is_err, is_ok}
 use Rattle.lattice.specs.declared.refusals.Refusal.{Refusal}
 use Rattle.lattice.specs.declared.refusals.Refusal.TheVariants.{SettingsOutOfRange, OtherLength, NotSound, CoordinateBeyond, SumNotZero, ValueBeyond, TooManyReadings, TooManyPoints, SettingsDiffer, NoPointMet, NoMassMet, KindNotListed, SettingsMisplaced, OtherDimension, BodyCut, ProgramLimit, RawOutOfRange, NumberNotHeld, NumberHeld}
 use Rattle.lattice.specs.Refusals.{number, told}
@@ -39,10 +40,7 @@ pub ok_tells : {A : Type 0} (r : Result A Refusal) → is_err r ≡ false → to
 ok_tells (Ok _) e = refl
 ok_tells (Err why) e = cc
 
-pub tells_err : {A : Type 0} (r : Result A Refusal) → (told r ≡ 0 → ⊥) → is_err r ≡ true
-tells_err (Ok _) h = absurd (h refl)
-tells_err (Err why) h = refl
-
-pub tells_ok : {A : Type 0} (r : Result A Refusal) → told r ≡ 0 → is_err r ≡ false
-tells_ok (Ok _) z = refl
-tells_ok (Err why) z = absurd (number_not_0 why z)
+-- as a test
+pub ok_is : {A : Type 0} (r : Result A Refusal) (x : ℕ) → told r ≡ x → is_ok r ≡ eqb x 0
+ok_is (Ok _) x e = ap (λ n. eqb n 0) e
+ok_is (Err why) x e = sym (ne_eqb x 0 (λ z. number_not_0 why (e ∙ z)))

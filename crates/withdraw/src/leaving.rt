@@ -21,6 +21,7 @@ fn point_of(keys: &[i32], d: usize, points: usize, key: &[i32]) -> Option<usize>
     ensures which { counted result ≡ point_of points (key_at d keys.now) key.now }
     ensures inside { IfSome result (λ i. i < points) }
 {
+    // A loop: the closure of a `find` from the back would not know that its stretch is inside the keys.
     for i in (0..points).rev() {
         let start = d * i;
         let end = start + d;
