@@ -75,5 +75,5 @@ filled_none p f h = record { places = h; each = λ i q. absurd (omega arith) }
 pub filled_more : {l : List ℤ} {v : ℤ} (p n : ℕ) (f : ℕ → ℤ) → n < p → Filled p n f l → v ≡ f n → Filled p (n + 1) f (set l n v)
 filled_more {l} {v} p n f h F e = record { places = length-set l n v ∙ F.places; each = place_more f l (pos 0) n v (omega (arith, F.places)) e F.each }
 
-pub filled_all : {l : List ℤ} (p : ℕ) (f : ℕ → ℤ) → Filled p p f l → l ≡ tab p f
-filled_all {l} p f F = tab_is p f l (pos 0) F.places F.each
+pub filled_all : {l : List ℤ} (p n : ℕ) (f : ℕ → ℤ) → p ≤ n → Filled p n f l → l ≡ tab p f
+filled_all {l} p n f h F = tab_is p f l (pos 0) F.places (λ i q. F.each i (omega arith))

@@ -13,6 +13,7 @@ use lib.Seq.{length-take-le, take_at}
 use mir.Syntax.{w64}
 use mir.Val.{SFits}
 use mir.Facts.{to_z-of_z}
+use Rattle.std.specs.Prelude.{Option, Some, None, unwrap_or}
 use Rattle.whole.specs.Size.{Abs≤}
 use Rattle.whole.specs.Lists.{at}
 use Rattle.whole.proofs.Signed.{W64}
@@ -21,8 +22,9 @@ use Rattle.index.proofs.Equality.{key_at_length, key_part}
 use Rattle.table.specs.Table.{Settings, Table, key, held}
 use Rattle.table.specs.Pour.{set_pair}
 use Rattle.table.proofs.Store.{pair_length, pair_mass, pair_value, pair_else}
+use Rattle.blur.specs.declared.pair.Pair.{Pair}
 use Rattle.blur.specs.Blur.{plus_step, minus_step, pass, is_stored, masses, values}
-use Rattle.blur.specs.Inner.{most_blurred, Movable, neighbour_of, PairIs, Passable, NewPair, NewPairs}
+use Rattle.blur.specs.Inner.{most_blurred, Movable, neighbour_of, PairFound, NumbersAre, Passable, NewPair, NewPairs}
 use Rattle.blur.proofs.Moving.{neighbour_length}
 use Rattle.blur.proofs.Stored.{own_stored, own_pair, held_small}
 
@@ -45,12 +47,20 @@ pass_stored : (stored : List ℤ → Bool) (d k : ℕ) (f : List ℤ → ℤ) (y
 unfolding pass
 pass_stored stored d k f y e = rw e refl
 
+-- the pair of a point that is not stored
+abbrev pub nothing : Pair
+nothing = record { mass = pos 0; value = pos 0 }
+
+numbers_are : (c : Settings) (t : Table) (y : List ℤ) (found : Option Pair) → PairFound c t y found → NumbersAre c t y (unwrap_or found nothing).mass (unwrap_or found nothing).value
+numbers_are c t y None P = record { mass_is = P.mass_is; value_is = P.value_is }
+numbers_are c t y (Some pair) P = record { mass_is = P.mass_is; value_is = P.value_is }
+
 -- what is found for a key is a number of the sheet, or 0
 module _ (c : Settings) (t : Table) (Q : Passable c t) where
-  mass_small : {y : List ℤ} {stored : Bool} {mass value : ℤ} → PairIs c t y stored mass value → Abs≤ mass most_blurred
+  mass_small : {y : List ℤ} {mass value : ℤ} → NumbersAre c t y mass value → Abs≤ mass most_blurred
   mass_small {y} P = rw P.mass_is (held_small c t Q.readable most_blurred Q.small y).0
 
-  value_small : {y : List ℤ} {stored : Bool} {mass value : ℤ} → PairIs c t y stored mass value → Abs≤ value most_blurred
+  value_small : {y : List ℤ} {mass value : ℤ} → NumbersAre c t y mass value → Abs≤ value most_blurred
   value_small {y} P = rw P.value_is (held_small c t Q.readable most_blurred Q.small y).1
 
 module _ (c : Settings) (t : Table) (Q : Passable c t) (i : ℕ) (l : i < t.m) where
@@ -91,16 +101,17 @@ module _ (c : Settings) (t : Table) (Q : Passable c t) (i : ℕ) (l : i < t.m) w
     pub neighbour_size : length (take (c.d - 0) (ns ++ rest)) ≡ c.d
     neighbour_size = ap length in_front ∙ neighbour_length plus c.d k (key c t i)
 
-    pub neighbour_is : {stored : Bool} {mass value : ℤ} → PairIs c t (take (c.d - 0) (ns ++ rest)) stored mass value → PairIs c t (neighbour_of plus c.d k (key c t i)) stored mass value
-    neighbour_is {stored} {mass} {value} P = subst (λ (y : List ℤ). PairIs c t y stored mass value) in_front P
+    pub neighbour_is : (found : Option Pair) {pair : Pair} → PairFound c t (take (c.d - 0) (ns ++ rest)) found → pair ≡ unwrap_or found nothing
+        → NumbersAre c t (neighbour_of plus c.d k (key c t i)) pair.mass pair.value
+    neighbour_is found {pair} P e = subst (λ (y : List ℤ). NumbersAre c t y pair.mass pair.value) in_front (rw e (numbers_are c t _ found P))
 
   -- ---- its pair
   own : held c t (key c t i) ≡ (at t.sums (2 * i), at t.sums (2 * i + 1))
   own = own_pair c t Q.readable i l
 
   -- and its new pair, from those of the neighbours
-  module _ (k : ℕ) {stored₁ stored₂ : Bool} {mass₁ value₁ mass₂ value₂ : ℤ} (P : PairIs c t (neighbour_of true c.d k (key c t i)) stored₁ mass₁ value₁)
-      (M : PairIs c t (neighbour_of false c.d k (key c t i)) stored₂ mass₂ value₂) where
+  module _ (k : ℕ) {mass₁ value₁ mass₂ value₂ : ℤ} (P : NumbersAre c t (neighbour_of true c.d k (key c t i)) mass₁ value₁)
+      (M : NumbersAre c t (neighbour_of false c.d k (key c t i)) mass₂ value₂) where
     pub mass_blendable : Abs≤ (W64 (at t.sums (2 * i))) most_blurred × (Abs≤ (W64 mass₁) most_blurred × Abs≤ (W64 mass₂) most_blurred)
     mass_blendable = blendable (Q.small (2 * i)) (mass_small c t Q P) (mass_small c t Q M)
 

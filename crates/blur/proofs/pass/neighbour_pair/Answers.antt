@@ -9,4 +9,4 @@ put_neighbour-requires c = let p = c.requires in record { movable = part_movable
 
 pub returns : goal.returns
 returns c =
-    neighbour_is _ _ c.requires.passable _ c.requires.point_lt_points c.args.plus c.args.k _ _ c.put_neighbour.ensures c.pair_of.ensures
+    neighbour_is _ _ c.requires.passable _ c.requires.point_lt_points c.args.plus c.args.k _ _ c.put_neighbour.ensures _ c.pair_of.ensures c.unwrap_or.ensures
