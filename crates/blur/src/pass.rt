@@ -7,6 +7,7 @@ ghost use Rattle.blur.specs.Inner.{most_blurred, neighbour_of, NumbersAre, Passa
 
 use crate::pair::{Pair, pair_of};
 use crate::step::put_neighbour;
+use lattice::limits::MOST_D;
 use table::Head;
 
 // A new number: the old one twice, and those of the two neighbours.
@@ -34,12 +35,12 @@ fn neighbour_pair(
     ensures { let t = table head keys.now sheet.now index.now in
         NumbersAre (settings head) t (neighbour_of plus head.d k (key_at head.d keys.now point)) result.mass result.value }
 {
-    let d = head.d;
-    let start = d * point;
-    let end = start + d;
-    let mut neighbour = [0i32; 5];
-    put_neighbour(&keys[start..end], k, plus, &mut neighbour[0..d]);
-    pair_of(head, keys, index, sheet, &neighbour[0..d]).unwrap_or(Pair { mass: 0, value: 0 })
+    let start = head.d * point;
+    let end = start + head.d;
+    let mut room = [0i32; MOST_D];
+    let neighbour = &mut room[..head.d];
+    put_neighbour(&keys[start..end], k, plus, neighbour);
+    pair_of(head, keys, index, sheet, neighbour).unwrap_or(Pair { mass: 0, value: 0 })
 }
 
 // The new pair of a stored point in pass k.
