@@ -1,12 +1,12 @@
 -- A sound table and two sheets: with the table's own pairs on the first, the passes can be made, and what they leave is the blur.
 use mathlib.Core.Path.{◌≡◌, ap, ◌∙◌, subst}
-use mathlib.Core.List.{List}
+use mathlib.Core.List.{List, ◌++◌}
 use Prim.Native.Nat.{ℕ, suc, ◌+◌, ◌*◌, ◌<◌, ◌≤◌}
 use native.Mathlib.Omega.{arith}
 use lib.IntN.{ℤ, pos}
-use lib.ListN.{length, take, replicate, length-replicate}
+use lib.ListN.{length, take, drop, replicate, length-replicate}
 use Rattle.whole.specs.Size.{Abs≤}
-use Rattle.whole.specs.Lists.{at, splice}
+use Rattle.whole.specs.Lists.{at}
 use Rattle.whole.proofs.Lists.{zeros}
 use Rattle.lattice.specs.Limits.{most_d, farthest_point}
 use Rattle.table.specs.Table.{Settings, Table, Row, row}
@@ -32,7 +32,13 @@ module _ (c : Settings) (t : Table) (first second : List ℤ) (S : Sheets c t fi
   sound_readable = fine_readable c t S.fine
 
   -- ---- the first sheet l, cleared and given the first 2·m sums
-  module _ {clear l : List ℤ} (z : clear ≡ replicate (length first) (pos 0)) (e : l ≡ splice clear 0 (take (2 * t.m) t.sums)) where
+  module _ {clear pairs : List ℤ} (z : clear ≡ replicate (length first) (pos 0)) (e : pairs ≡ take (2 * t.m) t.sums) where
+    abbrev l : List ℤ
+    l = pairs ++ drop (2 * t.m) clear
+
+    is_copied : l ≡ take (2 * t.m) t.sums ++ drop (2 * t.m) clear
+    is_copied = ap (λ (pairs : List ℤ). pairs ++ drop (2 * t.m) clear) e
+
     within : 2 * t.m ≤ length t.sums
     within = omega (arith, S.fine.shape.sums, S.fine.sound.indexed.sparse.room)
 
@@ -40,13 +46,13 @@ module _ (c : Settings) (t : Table) (first second : List ℤ) (S : Sheets c t fi
     clear_size = ap length z ∙ length-replicate (length first) (pos 0) ∙ S.first_size
 
     size : length l ≡ 2 * c.C
-    size = ap length e ∙ copied_length clear t.sums (2 * t.m) within (omega (arith, clear_size, S.fine.sound.indexed.sparse.room)) ∙ clear_size
+    size = ap length is_copied ∙ copied_length clear t.sums (2 * t.m) within (omega (arith, clear_size, S.fine.sound.indexed.sparse.room)) ∙ clear_size
 
     own : (j : ℕ) → j < 2 * t.m → at l j ≡ at t.sums j
-    own j h = ap (λ (l : List ℤ). at l j) e ∙ copied_in clear t.sums (2 * t.m) within j h
+    own j h = ap (λ (l : List ℤ). at l j) is_copied ∙ copied_in clear t.sums (2 * t.m) within j h
 
     rest : (j : ℕ) → 2 * t.m ≤ j → at l j ≡ pos 0
-    rest j h = ap (λ (l : List ℤ). at l j) e ∙ copied_past clear t.sums (2 * t.m) within j h ∙ ap (λ (l : List ℤ). at l j) z ∙ zeros (length first) j
+    rest j h = ap (λ (l : List ℤ). at l j) is_copied ∙ copied_past clear t.sums (2 * t.m) within j h ∙ ap (λ (l : List ℤ). at l j) z ∙ zeros (length first) j
 
     small : (j : ℕ) → Abs≤ (at l j) most_sum
     small = each_place (λ j. Abs≤ (at l j) most_sum) t.m

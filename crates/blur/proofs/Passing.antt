@@ -1,7 +1,7 @@
 -- One pass: the key of a stored point as a part of the keys, the point's new pair from its own and its neighbours', and the sheet filled with the new pairs.
 use mathlib.Core.Path.{◌≡◌, refl, sym, ap, ap₂, subst, ◌∙◌}
 use mathlib.Core.Bool.{Bool, true, false}
-use mathlib.Core.List.{List, ◌++◌}
+use mathlib.Core.List.{List}
 use Prim.Native.Nat.{ℕ, suc, ◌+◌, ◌-◌, ◌*◌, ◌≤◌, ◌<◌}
 use native.Mathlib.Nat.{le_refl, mul-le-mul}
 use native.Mathlib.Decide.{ℕ_discrete}
@@ -9,10 +9,10 @@ use native.Mathlib.Omega.{arith}
 use lib.Dec.{lit<}
 use lib.IntN.{ℤ, pos, ◌+ℤ◌, ◌*ℤ◌}
 use lib.ListN.{length, take, drop}
-use lib.Seq.{length-take-le, take_at}
 use mir.Syntax.{w64}
 use mir.Val.{SFits}
 use mir.Facts.{to_z-of_z}
+use Rattle.std.specs.Prelude.{Option, Some, None, unwrap_or}
 use Rattle.whole.specs.Size.{Abs≤}
 use Rattle.whole.specs.Lists.{at}
 use Rattle.whole.proofs.Signed.{W64}
@@ -21,9 +21,9 @@ use Rattle.index.proofs.Equality.{key_at_length, key_part}
 use Rattle.table.specs.Table.{Settings, Table, key, held}
 use Rattle.table.specs.Pour.{set_pair}
 use Rattle.table.proofs.Store.{pair_length, pair_mass, pair_value, pair_else}
+use Rattle.blur.specs.declared.pair.Pair.{Pair}
 use Rattle.blur.specs.Blur.{plus_step, minus_step, pass, is_stored, masses, values}
-use Rattle.blur.specs.Inner.{most_blurred, Movable, neighbour_of, PairIs, Passable, NewPair, NewPairs}
-use Rattle.blur.proofs.Moving.{neighbour_length}
+use Rattle.blur.specs.Inner.{most_blurred, Movable, neighbour_of, PairFound, NumbersAre, Passable, NewPair, NewPairs}
 use Rattle.blur.proofs.Stored.{own_stored, own_pair, held_small}
 
 -- ---- numbers of a sheet
@@ -45,12 +45,20 @@ pass_stored : (stored : List ℤ → Bool) (d k : ℕ) (f : List ℤ → ℤ) (y
 unfolding pass
 pass_stored stored d k f y e = rw e refl
 
+-- the pair of a point that is not stored
+abbrev pub nothing : Pair
+nothing = record { mass = pos 0; value = pos 0 }
+
+numbers_are : (c : Settings) (t : Table) (y : List ℤ) (found : Option Pair) → PairFound c t y found → NumbersAre c t y (unwrap_or found nothing).mass (unwrap_or found nothing).value
+numbers_are c t y None P = record { mass_is = P.mass_is; value_is = P.value_is }
+numbers_are c t y (Some pair) P = record { mass_is = P.mass_is; value_is = P.value_is }
+
 -- what is found for a key is a number of the sheet, or 0
 module _ (c : Settings) (t : Table) (Q : Passable c t) where
-  mass_small : {y : List ℤ} {stored : Bool} {mass value : ℤ} → PairIs c t y stored mass value → Abs≤ mass most_blurred
+  mass_small : {y : List ℤ} {mass value : ℤ} → NumbersAre c t y mass value → Abs≤ mass most_blurred
   mass_small {y} P = rw P.mass_is (held_small c t Q.readable most_blurred Q.small y).0
 
-  value_small : {y : List ℤ} {stored : Bool} {mass value : ℤ} → PairIs c t y stored mass value → Abs≤ value most_blurred
+  value_small : {y : List ℤ} {mass value : ℤ} → NumbersAre c t y mass value → Abs≤ value most_blurred
   value_small {y} P = rw P.value_is (held_small c t Q.readable most_blurred Q.small y).1
 
 module _ (c : Settings) (t : Table) (Q : Passable c t) (i : ℕ) (l : i < t.m) where
@@ -59,9 +67,6 @@ module _ (c : Settings) (t : Table) (Q : Passable c t) (i : ℕ) (l : i < t.m) w
   stretch_in =
       let n : suc i ≤ c.C = omega (arith, Q.readable.indexed.sparse.room) in
       omega (arith, Q.readable.shape.keys, mul-le-mul (le_refl c.d) n)
-
-  pub keys_short : length t.keys ≤ 40960
-  keys_short = omega (arith, Q.readable.shape.keys, mul-le-mul Q.readable.ranged.d_most Q.readable.ranged.C_most)
 
   -- the part of the keys that the code lends
   abbrev part : List ℤ
@@ -76,34 +81,22 @@ module _ (c : Settings) (t : Table) (Q : Passable c t) (i : ℕ) (l : i < t.m) w
   part_size : length part ≡ c.d
   part_size = ap length part_is ∙ key_at_length c.d t.keys i
 
-  -- the neighbour has as many coordinates as the part lent for it
-  pub neighbour_fits : (l : List ℤ) → c.d ≤ length l → length (take (c.d - 0) l) ≡ length part
-  neighbour_fits l h = length-take-le (c.d - 0) l (omega (arith, h)) ∙ omega (arith, part_size)
+  -- the pair that is found for the neighbour's key is that of the neighbour
+  module _ (plus : Bool) (k : ℕ) {ns : List ℤ} (e : ns ≡ neighbour_of plus (length part) k part) where
+    key_is : ns ≡ neighbour_of plus c.d k (key c t i)
+    key_is = e ∙ ap₂ (λ (n : ℕ) (y : List ℤ). neighbour_of plus n k y) part_size part_is
 
-  -- the neighbour that was put in front of what the array has left, as it is lent on: it has d coordinates, and its pair is the
-  -- neighbour's
-  module _ (plus : Bool) (k : ℕ) (ns rest : List ℤ) (e : ns ≡ neighbour_of plus (length part) k part) where
-    in_front : take (c.d - 0) (ns ++ rest) ≡ neighbour_of plus c.d k (key c t i)
-    in_front =
-        let n : length ns ≡ length part = ap length e ∙ neighbour_length plus (length part) k part in
-        take_at ns rest (c.d - 0) (omega (arith, n, part_size)) ∙ e ∙ ap₂ (λ (n : ℕ) (y : List ℤ). neighbour_of plus n k y) part_size part_is
-
-    pub neighbour_size : length (take (c.d - 0) (ns ++ rest)) ≡ c.d
-    neighbour_size = ap length in_front ∙ neighbour_length plus c.d k (key c t i)
-
-    pub neighbour_is : {stored : Bool} {mass value : ℤ} → PairIs c t (take (c.d - 0) (ns ++ rest)) stored mass value → PairIs c t (neighbour_of plus c.d k (key c t i)) stored mass value
-    neighbour_is {stored} {mass} {value} P = subst (λ (y : List ℤ). PairIs c t y stored mass value) in_front P
+    pub neighbour_is : (found : Option Pair) {pair : Pair} → PairFound c t ns found → pair ≡ unwrap_or found nothing
+        → NumbersAre c t (neighbour_of plus c.d k (key c t i)) pair.mass pair.value
+    neighbour_is found {pair} P w = subst (λ (y : List ℤ). NumbersAre c t y pair.mass pair.value) key_is (rw w (numbers_are c t _ found P))
 
   -- ---- its pair
   own : held c t (key c t i) ≡ (at t.sums (2 * i), at t.sums (2 * i + 1))
   own = own_pair c t Q.readable i l
 
   -- and its new pair, from those of the neighbours
-  module _ (k : ℕ) {stored₁ stored₂ : Bool} {mass₁ value₁ mass₂ value₂ : ℤ} (P : PairIs c t (neighbour_of true c.d k (key c t i)) stored₁ mass₁ value₁)
-      (M : PairIs c t (neighbour_of false c.d k (key c t i)) stored₂ mass₂ value₂) where
-    pub mass_blendable : Abs≤ (W64 (at t.sums (2 * i))) most_blurred × (Abs≤ (W64 mass₁) most_blurred × Abs≤ (W64 mass₂) most_blurred)
-    mass_blendable = blendable (Q.small (2 * i)) (mass_small c t Q P) (mass_small c t Q M)
-
+  module _ (k : ℕ) {mass₁ value₁ mass₂ value₂ : ℤ} (P : NumbersAre c t (neighbour_of true c.d k (key c t i)) mass₁ value₁)
+      (M : NumbersAre c t (neighbour_of false c.d k (key c t i)) mass₂ value₂) where
     pub value_blendable : Abs≤ (W64 (at t.sums (2 * i + 1))) most_blurred × (Abs≤ (W64 value₁) most_blurred × Abs≤ (W64 value₂) most_blurred)
     value_blendable = blendable (Q.small (2 * i + 1)) (value_small c t Q P) (value_small c t Q M)
 
@@ -132,6 +125,3 @@ module _ (c : Settings) (t : Table) (Q : Passable c t) (i : ℕ) (l : i < t.m) w
       go : (j : ℕ) → j < i + 1 → Dec (j ≡ i) → NewPair c t k (key c t j) (at (set_pair to i mass value) (2 * j)) (at (set_pair to i mass value) (2 * j + 1))
       go j q (yes h) = rw (h, pair_mass to i mass value (omega (arith, pair_in to S.size)), pair_value to i mass value (pair_in to S.size)) N
       go j q (no h) = rw (pair_else to i mass value (2 * j) (omega arith) (omega arith), pair_else to i mass value (2 * j + 1) (omega arith) (omega arith)) (S.pairs j (omega arith))
-
-pub passed_none : (c : Settings) (t : Table) (k : ℕ) {to : List ℤ} → length to ≡ 2 * c.C → NewPairs c t k 0 to
-passed_none c t k s = record { size = s; pairs = λ i h. absurd (omega arith) }

@@ -1,13 +1,13 @@
 -- The passes on two sheets: a pass there and back leaves the next sheet in the first, from the table's own pairs to those after the last pass.
 use mathlib.Core.Path.{◌≡◌, refl, sym, ap, ap₂, ◌∙◌, subst, fun_ext}
-use mathlib.Core.List.{List}
+use mathlib.Core.List.{List, ◌++◌}
 use Prim.Native.Nat.{ℕ, suc, ◌+◌, ◌*◌, ◌^◌, ◌<◌, ◌≤◌}
 use native.Mathlib.Nat.{pow-le-pow_right}
 use native.Mathlib.Omega.{arith}
 use lib.IntN.{ℤ, pos}
-use lib.ListN.{length, take}
+use lib.ListN.{length, take, drop}
 use Rattle.whole.specs.Size.{Abs≤}
-use Rattle.whole.specs.Lists.{at, splice}
+use Rattle.whole.specs.Lists.{at}
 use Rattle.table.specs.Table.{Settings, Table, key, held}
 use Rattle.blur.specs.Blur.{pass, passes, is_stored, masses, values, mass_after, value_after}
 use Rattle.blur.specs.Sheet.{sheet, sheet_after, with_sums}
@@ -19,17 +19,17 @@ use Rattle.blur.proofs.Theorems.{mass_off, value_off}
 use Rattle.blur.proofs.Stored.{sheet_readable, own_pair, held_small}
 
 -- ---- the new pairs, copied back
-pub passed_back : {first : List ℤ} (c : Settings) (t : Table) (k : ℕ) (second to : List ℤ) → Returning c t second → NewPairs c t k t.m to
-    → first ≡ splice t.sums 0 (take (2 * t.m) to) → first ≡ passed_sheet c t k
-passed_back {first} c t k second to R Q e =
+pub passed_back : {own : List ℤ} (c : Settings) (t : Table) (k : ℕ) (second to : List ℤ) → Returning c t second → NewPairs c t k t.m to
+    → own ≡ take (2 * t.m) to → own ++ drop (2 * t.m) t.sums ≡ passed_sheet c t k
+passed_back {own} c t k second to R Q e =
     let room = R.passable.readable.indexed.sparse.room in
     let size = R.passable.readable.shape.sums in
     let within : 2 * t.m ≤ length to = omega (arith, Q.size) in
-    e ∙ sheet_is c t (pass (is_stored c t) c.d k (masses c t)) (pass (is_stored c t) c.d k (values c t)) (splice t.sums 0 (take (2 * t.m) to)) room
+    rw e (sheet_is c t (pass (is_stored c t) c.d k (masses c t)) (pass (is_stored c t) c.d k (values c t)) (take (2 * t.m) to ++ drop (2 * t.m) t.sums) room
     (copied_length t.sums to (2 * t.m) within (omega (arith, size)) ∙ size)
     (λ i l. copied_in t.sums to (2 * t.m) within (2 * i) (omega arith) ∙ (Q.pairs i l).mass_is)
     (λ i l. copied_in t.sums to (2 * t.m) within (2 * i + 1) (omega arith) ∙ (Q.pairs i l).value_is)
-    (λ j h. copied_past t.sums to (2 * t.m) within j h ∙ R.rest j h)
+    (λ j h. copied_past t.sums to (2 * t.m) within j h ∙ R.rest j h))
 
 -- ---- the sheets of a table, one after the other
 module _ (c : Settings) (t : Table) (R : Readable c t) where

@@ -1,11 +1,12 @@
 -- What the functions of the blur ask of one another and leave.
-use Rattle.std.specs.Prelude.{◌≡◌, Bool, cond, List, ℕ, ◌+◌, ◌*◌, ◌^◌, ◌<◌, ◌≤◌, ℤ, pos, length}
+use Rattle.std.specs.Prelude.{◌≡◌, Bool, true, false, cond, Option, Some, None, List, ℕ, ◌+◌, ◌*◌, ◌^◌, ◌<◌, ◌≤◌, ℤ, pos, length}
 use Rattle.whole.specs.Size.{Abs≤}
 use Rattle.whole.specs.Lists.{at}
 use Rattle.lattice.specs.Limits.{most_d, most_coords, most_value, most_readings, most_W, farthest_point}
 use Rattle.index.specs.Indexed.{Indexed}
 use Rattle.table.specs.Table.{Settings, Table, key, entry}
 use Rattle.table.specs.Sound.{Ranged, Shape, Fine}
+use Rattle.blur.specs.declared.pair.Pair.{Pair}
 use Rattle.blur.specs.Blur.{plus_step, minus_step, pass, is_stored, masses, values}
 use Rattle.blur.specs.Sheet.{sheet, blurred_sheet, clear_sheet}
 
@@ -35,6 +36,16 @@ pub record Readable (c : Settings) (t : Table) : Type 0 where
 -- what the sheet has for a key
 pub record PairIs (c : Settings) (t : Table) (y : List ℤ) (stored : Bool) (mass value : ℤ) : Type 0 where
   pub stored_is : stored ≡ is_stored c t y
+  pub mass_is : mass ≡ masses c t y
+  pub value_is : value ≡ values c t y
+
+-- `PairIs` of the pair that is found for a key; where none is, the two numbers are 0
+abbrev pub PairFound : Settings → Table → List ℤ → Option Pair → Type 0
+PairFound c t y None = PairIs c t y false (pos 0) (pos 0)
+PairFound c t y (Some pair) = PairIs c t y true pair.mass pair.value
+
+-- the two numbers alone, 0 where the point is not stored
+pub record NumbersAre (c : Settings) (t : Table) (y : List ℤ) (mass value : ℤ) : Type 0 where
   pub mass_is : mass ≡ masses c t y
   pub value_is : value ≡ values c t y
 

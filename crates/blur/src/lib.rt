@@ -2,8 +2,7 @@
 // back. What a pass is stands in specs/; that it is linear and keeps its bounds, in proofs/.
 #![tactic(auto)]
 
-ghost use Rattle.std.specs.Prelude.{◌≡◌, suc, ◌*◌, ◌≤◌, length, take};
-ghost use Rattle.whole.specs.Lists.{splice};
+ghost use Rattle.std.specs.Prelude.{◌≡◌, suc};
 ghost use Rattle.table.specs.Heads.{settings, table};
 ghost use Rattle.blur.specs.Sheet.{sheet_after};
 ghost use Rattle.blur.specs.Inner.{Returning, passed_sheet, Blurrable, Sheets, Blurred};
@@ -15,18 +14,6 @@ mod step;
 use crate::pass::pass;
 use table::Head;
 use table::clear::clear_sums;
-
-// The first numbers of one sheet into another.
-fn copy_numbers(source: &[i64], target: &mut [i64], count: usize)
-    requires count_in_bounds { count ≤ length source.now }
-    requires count_in_bounds_2 { count ≤ length target.old }
-    ensures { target.new ≡ splice target.old 0 (take count source.now) }
-{
-    for i in 0..count {
-        let v = source[i];
-        target[i] = v;
-    }
-}
 
 // Pass k, and its pairs back into the first sheet.
 fn pass_back(
@@ -41,8 +28,9 @@ fn pass_back(
     ensures { let t = table head keys.now first.old index.now in
         first.new ≡ passed_sheet (settings head) t k }
 {
+    let numbers = 2 * head.points;
     pass(head, keys, index, first, second, k);
-    copy_numbers(second, first, 2 * head.points);
+    first[..numbers].copy_from_slice(&second[..numbers]);
 }
 
 // The passes 0 to d, in that order.
@@ -71,8 +59,9 @@ pub fn blur(
     ensures { let t = table head keys.now sums.now index.now in
         Blurred (settings head) t first.new second.new }
 {
+    let numbers = 2 * head.points;
     clear_sums(first);
-    copy_numbers(sums, first, 2 * head.points);
+    first[..numbers].copy_from_slice(&sums[..numbers]);
     all_passes(head, keys, index, first, second);
     clear_sums(second);
 }

@@ -3,10 +3,11 @@ ghost use Rattle.std.specs.Prelude.{◌≡◌, ◌*◌, ◌<◌, pos, ◌+ℤ◌
 ghost use Rattle.whole.specs.Size.{Abs≤};
 ghost use Rattle.index.specs.Keys.{key_at};
 ghost use Rattle.table.specs.Heads.{settings, table};
-ghost use Rattle.blur.specs.Inner.{most_blurred, neighbour_of, PairIs, Passable, NewPair, NewPairs};
+ghost use Rattle.blur.specs.Inner.{most_blurred, neighbour_of, NumbersAre, Passable, NewPair, NewPairs};
 
 use crate::pair::{Pair, pair_of};
 use crate::step::put_neighbour;
+use lattice::limits::MOST_D;
 use table::Head;
 
 // A new number: the old one twice, and those of the two neighbours.
@@ -19,7 +20,7 @@ fn blend(old: i64, plus: i64, minus: i64) -> i64
     old + old + plus + minus
 }
 
-// The pair of the neighbour of a point, on one side.
+// The pair of the neighbour of a point, on one side: two times 0 where it is not stored.
 fn neighbour_pair(
     head: Head,
     keys: &[i32],
@@ -32,14 +33,14 @@ fn neighbour_pair(
     requires passable { Passable (settings head) (table head keys.now sheet.now index.now) }
     requires point_lt_points { point < head.points }
     ensures { let t = table head keys.now sheet.now index.now in
-        PairIs (settings head) t (neighbour_of plus head.d k (key_at head.d keys.now point)) result.stored result.mass result.value }
+        NumbersAre (settings head) t (neighbour_of plus head.d k (key_at head.d keys.now point)) result.mass result.value }
 {
-    let d = head.d;
-    let start = d * point;
-    let end = start + d;
-    let mut neighbour = [0i32; 5];
-    put_neighbour(&keys[start..end], k, plus, &mut neighbour[0..d]);
-    pair_of(head, keys, index, sheet, &neighbour[0..d])
+    let start = head.d * point;
+    let end = start + head.d;
+    let mut room = [0i32; MOST_D];
+    let neighbour = &mut room[..head.d];
+    put_neighbour(&keys[start..end], k, plus, neighbour);
+    pair_of(head, keys, index, sheet, neighbour).unwrap_or(Pair { mass: 0, value: 0 })
 }
 
 // The new pair of a stored point in pass k.
@@ -54,7 +55,6 @@ fn new_pair(head: Head, keys: &[i32], index: &[u16], sheet: &[i64], point: usize
     let plus = neighbour_pair(head, keys, index, sheet, point, k, true);
     let minus = neighbour_pair(head, keys, index, sheet, point, k, false);
     Pair {
-        stored: true,
         mass: blend(sheet[a], plus.mass, minus.mass),
         value: blend(sheet[b], plus.value, minus.value),
     }

@@ -11,7 +11,7 @@ fn step_at(d: usize, k: usize, i: usize) -> i32
     ensures { result ≡ step d k i }
 {
     if i == k {
-        return 0 - (d as i32);
+        return -(d as i32);
     }
     1
 }
@@ -22,10 +22,7 @@ fn moved(x: i32, by: i32, plus: bool) -> i32
     requires abs_2 { Abs≤ by most_d }
     ensures { result ≡ cond plus (x +ℤ by) (x -ℤ by) }
 {
-    if plus {
-        return x + by;
-    }
-    x - by
+    if plus { x + by } else { x - by }
 }
 
 // The key of point plus step, or of point minus step. It is written where the search reads it, since
@@ -35,9 +32,7 @@ pub fn put_neighbour(key: &[i32], k: usize, plus: bool, neighbour: &mut [i32])
     requires neighbour_len { length neighbour.old ≡ length key.now }
     ensures { neighbour.new ≡ neighbour_of plus (length key.now) k key.now }
 {
-    let d = key.len();
-    for i in 0..d {
-        let x = key[i];
-        neighbour[i] = moved(x, step_at(d, k, i), plus);
+    for (i, x) in key.iter().enumerate() {
+        neighbour[i] = moved(*x, step_at(key.len(), k, i), plus);
     }
 }

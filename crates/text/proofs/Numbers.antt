@@ -6,7 +6,7 @@ use native.Mathlib.Numerals.{add-one}
 use native.Mathlib.Omega.{arith}
 use lib.IntN.{ℤ, pos}
 use lib.ListN.{length, set, take, length-append, take-append-drop}
-use lib.Seq.{take-suc, take_all}
+use lib.Seq.{take-suc}
 use Rattle.whole.specs.Lists.{at}
 use Rattle.text.specs.Text.{space, decimal, spaced, line, line_feed, Written}
 use Rattle.text.proofs.Lines.{written_then, written_byte, written_room}
@@ -31,9 +31,6 @@ module _ {o : List ℕ} {a : ℕ} (l : List ℤ) (i : ℕ) {next : ℕ} {out : L
   pub numbers_more : {next' : ℕ} {out' : List ℕ} → i < length l → a + length (spaced l) ≤ length o → Written out next (space ∷ decimal (at l i)) next' out'
       → Written o a (spaced (take (i + 1) l)) next' out'
   numbers_more h r q = rw (spaced_more l i h) (written_then p q (omega (arith, rw (spaced_more l i h, length-append) at (spaced_part l (i + 1)))))
-
-  pub numbers_all : length l ≤ i → Written o a (spaced l) next out
-  numbers_all h = rw (take_all i l h) at p
 
 -- ---- a line by its parts
 pub line_room : (word : List ℕ) (numbers : List ℤ) (a k : ℕ) → a + length (line word numbers) ≤ k → a + length word + (length (spaced numbers) + 1) ≤ k

@@ -1,5 +1,4 @@
 use borrow.Author.Rules.{rules}
-use mathlib.Core.Path.{refl}
 use mir.Facts.{to_z-of_z}
 use mir.Syntax.{w64}
 use mir.Val.{SFits}
@@ -9,19 +8,18 @@ use Rattle.text.proofs.Lines.{written_nothing}
 use Rattle.text.proofs.Numbers.{numbers_room, numbers_more}
 use Rattle.text.proofs.put_numbers.Goals as goal
 
-pub loop-i-init : goal.loop-i-init
+pub loop-number-init : goal.loop-number-init
 unfolding spaced
-loop-i-init c = (search rules, refl, written_nothing c.args.out.now c.args.at)
+loop-number-init c = written_nothing c.args.out.now c.args.at
 
 pub put_spaced-next-requires : goal.put_spaced-next-requires
 put_spaced-next-requires c =
-    let l = c.loop-i in
-    let f : SFits w64 (at c.args.numbers.now l.i) = search rules in
-    rw (to_z-of_z f) (numbers_room c.args.numbers.now l.i l.invariant.2 (search rules) c.requires)
+    let l = c.loop-number in
+    let f : SFits w64 (at c.args.numbers.now l.number-index) = search rules in
+    rw (to_z-of_z f) (numbers_room c.args.numbers.now l.number-index l.invariant c.loop-number-test.true c.requires)
 
-pub loop-i-preserved : goal.loop-i-preserved
-loop-i-preserved c =
-    let l = c.loop-i in
-    let f : SFits w64 (at c.args.numbers.now l.i) = search rules in
-    let more = numbers_more c.args.numbers.now l.i l.invariant.2 (search rules) c.requires (rw (to_z-of_z f) at c.put_spaced-next.ensures) in
-    (search rules, refl, more)
+pub loop-number-preserved : goal.loop-number-preserved
+loop-number-preserved c =
+    let l = c.loop-number in
+    let f : SFits w64 (at c.args.numbers.now l.number-index) = search rules in
+    numbers_more c.args.numbers.now l.number-index l.invariant c.loop-number-test.true c.requires (rw (to_z-of_z f) at c.put_spaced-next.ensures)

@@ -1,8 +1,6 @@
-use mathlib.Core.Path.{◌≡◌}
-use Prim.Native.Nat.{◌≤◌}
-use lib.ListN.{length, take}
+use lib.ListN.{take}
 use Rattle.text.specs.Text.{spaced, Written}
 use Rattle.text.proofs.put_numbers.Given as goal
 
-abbrev pub invariant-loop-i : goal.invariant-loop-i
-invariant-loop-i l = (l.i ≤ l.n) × (l.n ≡ length l.numbers) × Written l.initial.out l.at (spaced (take l.i l.numbers)) l.next l.out
+abbrev pub invariant-loop-number : goal.invariant-loop-number
+invariant-loop-number l = Written l.initial.out l.at (spaced (take l.number-index l.numbers)) l.next l.out
