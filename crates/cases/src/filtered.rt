@@ -1,33 +1,20 @@
 // The filter on a table of dimension 1: both work sheets as it leaves them, and the answers at five
 // queries. The sheets and the lists of values and codes hold 9 before the call.
-use crate::print::print_number;
-use crate::tables::{enter_fresh, print_count, print_small};
+use crate::print::print_numbers;
+use crate::tables::enter_fresh;
 use filter::filter;
 use std::io;
 use table::Head;
 
 fn print_sheet(rt: &impl Print, sheet: &[i64]) -> io::Result<()> {
     print!(rt; "SHEET")?;
-    let n = sheet.len();
-    for i in 0..n {
-        let x = sheet[i];
-        print_small(rt, x)?;
-    }
+    print_numbers(rt, sheet)?;
     println!(rt; "")
 }
 
 fn print_answers(rt: &impl Print, values: &[i32], codes: &[u8]) -> io::Result<()> {
-    let n = values.len();
-    if codes.len() != n {
-        return Ok(());
-    }
-    for j in 0..n {
-        let value = values[j];
-        let code = codes[j];
-        print!(rt; "ANSWER")?;
-        print_number(rt, value)?;
-        print_count(rt, code as usize)?;
-        println!(rt; "")?;
+    for (value, code) in values.iter().zip(codes) {
+        println!(rt; "ANSWER {value} {code}")?;
     }
     Ok(())
 }
@@ -57,9 +44,7 @@ fn show_answers(
         &mut values,
         &mut codes,
     );
-    print!(rt; "FILTERED")?;
-    print_count(rt, number as usize)?;
-    println!(rt; "")?;
+    println!(rt; "FILTERED {number}")?;
     print_sheet(rt, &first)?;
     print_sheet(rt, &second)?;
     print_answers(rt, &values, &codes)

@@ -7,29 +7,18 @@ fn show_log(rt: &impl Print, name: &str, log: &[u8]) -> io::Result<()> {
     println!(rt; "LOG {name}")?;
     let mut out = [0u8; ROOM];
     let bytes = report(log, &mut out);
-    rt.write_all(&out[0..bytes])
-}
-
-// The bytes of a log from a place up to another.
-fn show_part(rt: &impl Print, name: &str, log: &[u8], from: usize, to: usize) -> io::Result<()> {
-    if to < from {
-        return Ok(());
-    }
-    if log.len() < to {
-        return Ok(());
-    }
-    show_log(rt, name, &log[from..to])
+    rt.write_all(&out[..bytes])
 }
 
 // The worked log, and cut at several bytes.
-fn show_cuts(rt: &impl Print, log: &[u8]) -> io::Result<()> {
+fn show_cuts(rt: &impl Print, log: &[u8; 49]) -> io::Result<()> {
     show_log(rt, "worked", log)?;
-    show_part(rt, "empty", log, 0, 0)?;
-    show_part(rt, "cut in the settings", log, 0, 4)?;
-    show_part(rt, "cut after the settings", log, 0, 5)?;
-    show_part(rt, "cut between the readings", log, 0, 18)?;
-    show_part(rt, "cut in the second reading", log, 0, 30)?;
-    show_part(rt, "without settings", log, 5, 49)
+    show_log(rt, "empty", &log[..0])?;
+    show_log(rt, "cut in the settings", &log[..4])?;
+    show_log(rt, "cut after the settings", &log[..5])?;
+    show_log(rt, "cut between the readings", &log[..18])?;
+    show_log(rt, "cut in the second reading", &log[..30])?;
+    show_log(rt, "without settings", &log[5..])
 }
 
 // Items that are refused by their form, and limits of the program.

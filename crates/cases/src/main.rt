@@ -10,7 +10,7 @@
 // with the report that dyemap prints for it.
 #![tactic(auto)]
 
-ghost use Rattle.std.specs.Prelude.{◌≡◌, ◌<◌, ◌≤◌, length};
+ghost use Rattle.std.specs.Prelude.{◌≤◌, ◌≤ℤ◌, pos, length};
 
 mod filtered;
 mod logs;
@@ -26,50 +26,28 @@ use crate::withdrawn::show_withdrawn;
 use lattice::position::judge;
 use simplex::{Simplex, enclose};
 use std::io;
+use whole::division::remainder_of;
+use whole::round::round_fraction;
 
-// The point in slot k, if there is one: its n coordinates and its weight.
-fn print_slot(rt: &impl Print, s: Simplex, n: usize, k: usize) -> io::Result<()>
-    requires coords_len { length s.coords ≡ 36 }
-    requires n_bound { n ≤ 6 }
-    requires k_bound { k < 6 }
-{
-    let weight = s.weights[k];
-    if weight == 0 {
-        return Ok(());
-    }
-    let coords = s.coords;
-    let a = 6 * k;
-    let b = a + n;
-    print!(rt; "POINT")?;
-    print_numbers(rt, &coords[a..b])?;
-    println!(rt; " {weight}")
-}
-
+// The points of weight above 0: the n coordinates of each, and its weight.
 fn print_points(rt: &impl Print, s: Simplex, n: usize) -> io::Result<()>
-    requires coords_len { length s.coords ≡ 36 }
-    requires n_bound { n ≤ 6 }
+    requires { n ≤ 6 }
 {
-    for k in 0..n {
-        print_slot(rt, s, n, k)?;
+    for (k, weight) in s.weights[..n].iter().enumerate() {
+        if *weight != 0 {
+            print!(rt; "POINT")?;
+            print_numbers(rt, &s.coords[6 * k..6 * k + n])?;
+            println!(rt; " {weight}")?;
+        }
     }
     Ok(())
 }
 
 // A position of two to six coordinates: the points around it, or its refusal.
-fn show(rt: &impl Print, x: &[i32], fineness: u32) -> io::Result<()> {
-    let n = x.len();
-    if n < 2 {
-        return Ok(());
-    }
-    if 6 < n {
-        return Ok(());
-    }
-    if fineness < 1 {
-        return Ok(());
-    }
-    if 64 < fineness {
-        return Ok(());
-    }
+fn show(rt: &impl Print, x: &[i32], fineness: u32) -> io::Result<()>
+    requires coordinates { (2 ≤ length x.now) × (length x.now ≤ 6) }
+    requires fine { (1 ≤ fineness) × (fineness ≤ 64) }
+{
     print!(rt; "FINENESS {fineness} POSITION")?;
     print_numbers(rt, x)?;
     println!(rt; "")?;
@@ -77,26 +55,21 @@ fn show(rt: &impl Print, x: &[i32], fineness: u32) -> io::Result<()> {
     if number != 0 {
         return println!(rt; "REFUSED {number}");
     }
-    let s = enclose(x, n - 1, fineness);
-    print_points(rt, s, n)
+    let n = x.len();
+    print_points(rt, enclose(x, n - 1, fineness), n)
 }
 
-fn show_rounded(rt: &impl Print, num: i32, den: i32) -> io::Result<()> {
-    if den < 1 {
-        return Ok(());
-    }
-    let r = whole::round::round_fraction(num as i64, den as i64);
+fn show_rounded(rt: &impl Print, num: i32, den: i32) -> io::Result<()>
+    requires { pos 1 ≤ℤ den }
+{
+    let r = round_fraction(i64::from(num), i64::from(den));
     println!(rt; "ROUNDED {num} {den} {r}")
 }
 
-fn show_remainder(rt: &impl Print, x: i32, m: u32) -> io::Result<()> {
-    if m < 1 {
-        return Ok(());
-    }
-    if 1000 < m {
-        return Ok(());
-    }
-    let r = whole::division::remainder_of(x, m);
+fn show_remainder(rt: &impl Print, x: i32, m: u32) -> io::Result<()>
+    requires { (1 ≤ m) × (m ≤ 1000) }
+{
+    let r = remainder_of(x, m);
     println!(rt; "REMAINDER {x} {m} {r}")
 }
 

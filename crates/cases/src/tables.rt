@@ -1,6 +1,6 @@
 // The calls on tables of dimension 1, with the readings of document 01's log and of its small numbers,
 // each with a number.
-use crate::print::{print_number, print_numbers};
+use crate::print::print_numbers;
 use book::fresh::fresh;
 use enter::enter;
 use listing::list;
@@ -8,55 +8,14 @@ use merge::merge;
 use std::io;
 use table::Head;
 
-// A coordinate, a mass or a value sum; those of the cases are far within 32 bits.
-pub fn print_small(rt: &impl Print, x: i64) -> io::Result<()> {
-    if x < -1000000000 {
-        return Ok(());
-    }
-    if 1000000000 < x {
-        return Ok(());
-    }
-    print_number(rt, x as i32)
-}
-
-pub fn print_count(rt: &impl Print, n: usize) -> io::Result<()> {
-    print!(rt; " {n}")
-}
-
 // Point i: both coordinates, mass, value sum.
 fn print_point(rt: &impl Print, keys: &[i32], sums: &[i64], i: usize) -> io::Result<()> {
-    if keys.len() <= i {
+    let (Some(key), Some(pair)) = (keys.get(i), sums.chunks_exact(2).nth(i)) else {
         return Ok(());
-    }
-    if sums.len() / 2 <= i {
-        return Ok(());
-    }
-    let key = keys[i];
-    let last = -(key as i64);
-    let mass = sums[2 * i];
-    let value = sums[2 * i + 1];
-    print!(rt; "POINT {key}")?;
-    print_small(rt, last)?;
-    print_small(rt, mass)?;
-    print_small(rt, value)?;
+    };
+    print!(rt; "POINT {key} {}", -i64::from(*key))?;
+    print_numbers(rt, pair)?;
     println!(rt; "")
-}
-
-fn print_points(
-    rt: &impl Print,
-    keys: &[i32],
-    sums: &[i64],
-    order: &[u16],
-    points: usize,
-) -> io::Result<()> {
-    if order.len() < points {
-        return Ok(());
-    }
-    for k in 0..points {
-        let i = order[k];
-        print_point(rt, keys, sums, i as usize)?;
-    }
-    Ok(())
 }
 
 // HEAD: d, S, readings, points; then the points in listing order.
@@ -73,13 +32,14 @@ pub fn print_table(
     if number != 0 {
         return Ok(());
     }
-    print!(rt; "HEAD")?;
-    print_count(rt, head.d)?;
-    print_count(rt, head.fineness as usize)?;
-    print_count(rt, head.readings)?;
-    print_count(rt, head.points)?;
-    println!(rt; "")?;
-    print_points(rt, keys, sums, order, head.points)
+    println!(rt;
+        "HEAD {} {} {} {}",
+        head.d, head.fineness, head.readings, head.points
+    )?;
+    for i in order.iter().take(head.points) {
+        print_point(rt, keys, sums, usize::from(*i))?;
+    }
+    Ok(())
 }
 
 // All of a book, also past its last entry.
@@ -104,10 +64,7 @@ pub fn enter_fresh(
     let room = book.len() / 4;
     let made = fresh(1, fineness, capacity, room, keys, sums, index, book);
     let entered = enter(made.head, keys, sums, index, book, readings);
-    print!(rt; "TAKEN")?;
-    print_count(rt, entered.taken)?;
-    print_count(rt, entered.number as usize)?;
-    println!(rt; "")?;
+    println!(rt; "TAKEN {} {}", entered.taken, entered.number)?;
     Ok(entered.head)
 }
 

@@ -1,6 +1,6 @@
 // A reading of document 01's log taken back. Its table is entered as above, with the numbers 7 and -3,
 // and its book has room for a third, in which something else stands.
-use crate::tables::{enter_fresh, print_book, print_count, print_table};
+use crate::tables::{enter_fresh, print_book, print_table};
 use std::io;
 use table::Head;
 use withdraw::withdraw;
@@ -17,9 +17,7 @@ fn show_left(
     number: i32,
 ) -> io::Result<()> {
     let left = withdraw(head, keys, sums, index, book, number);
-    print!(rt; "WITHDRAWN")?;
-    print_count(rt, left.number as usize)?;
-    println!(rt; "")?;
+    println!(rt; "WITHDRAWN {}", left.number)?;
     print_table(rt, left.head, keys, sums, index, book, order)?;
     print_book(rt, book)
 }

@@ -3,7 +3,7 @@ use Rattle.simplex.proofs.Placing.{placed}
 use Rattle.cases.proofs.show.Goals as goal
 
 -- what `enclose` asks follows from the tests on the way and from `judge`
-pub enclose-s-requires : goal.enclose-s-requires
-enclose-s-requires g c =
+pub enclose-requires : goal.enclose-requires
+enclose-requires g c =
     let x = c.args.x.now in
     placed (length x - 1) c.args.fineness x (omega arith) (omega arith) (omega arith) (omega arith) (omega arith) (sym c.judge-number.ensures ∙ c.if-number-ne0.false)
