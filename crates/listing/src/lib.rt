@@ -7,10 +7,8 @@ ghost use Rattle.table.specs.Heads.{settings};
 ghost use Rattle.book.specs.Heads.{booked};
 ghost use Rattle.listing.specs.Listing.{ListsIn};
 
-mod compare;
 pub mod fill;
-mod merge;
-mod sort;
+mod order;
 
 use crate::fill::fill;
 use carried::refusal_of;

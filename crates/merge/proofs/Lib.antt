@@ -1,3 +1,4 @@
+pub mod Pieces
 pub mod Rows
 pub mod Refusing
 pub mod Merging

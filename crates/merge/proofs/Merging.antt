@@ -1,11 +1,11 @@
 -- A merge: from its refusals to what weighing, pouring and putting ask, and to what is answered.
 use mathlib.Core.Path.{◌≡◌, refl, sym, ap, subst, ◌∙◌}
 use mathlib.Core.List.{List}
-use Prim.Native.Nat.{ℕ, zero, suc, ◌+◌, ◌*◌, ◌-◌}
+use Prim.Native.Nat.{ℕ, zero, suc, ◌+◌, ◌*◌}
 use native.Mathlib.Nat.{le_refl, mul-le-mul, mul-le-mul_left}
 use native.Mathlib.Omega.{arith}
 use lib.IntN.{ℤ}
-use lib.ListN.{take, drop}
+use lib.ListN.{take}
 use Rattle.whole.specs.Lists.{splice}
 use Rattle.table.specs.declared.Head.{Head}
 use Rattle.table.specs.Table.{Settings, Table, rows}
@@ -29,6 +29,7 @@ use Rattle.merge.proofs.Refusing.{BothFine}
 -- ---- what is asked
 stretches_of : (d : ℕ) (e : Settings) (s : Table) → Fine e s → d ≡ e.d → Stretches d s.keys s.m
 stretches_of d e s F q = subst (λ (d : ℕ). Stretches d s.keys s.m) (sym q) record {
+  d_least = F.ranged.d_least;
   d_most = F.ranged.d_most;
   few = omega (arith, F.ranged.C_most, F.sound.indexed.sparse.room);
   inside = omega (arith, F.shape.keys, mul-le-mul (le_refl e.d) F.sound.indexed.sparse.room);
@@ -72,10 +73,6 @@ module _ (c : Settings) (b : Booked) (e : Settings) (s : Booked) (z : merge_refu
         inside = omega (arith, M.target.lengths, mul-le-mul_left (c.d + 3) M.room);
         source_inside = rw M.mergeable.same_d (book_long e s M.source);
       }
-
--- ---- entries as the code lends them
-pub put : (l : List ℤ) (a k : ℕ) (v : List ℤ) {m : List ℤ} → m ≡ splice l a (take (k - 0) (drop 0 v)) → m ≡ splice l a (take k v)
-put l a k v e = let q : k - 0 ≡ k = omega arith in e ∙ ap (λ (k : ℕ). splice l a (take k v)) q
 
 -- ---- what is answered
 module _ (h : Head) (keys sums : List ℤ) (index : List ℕ) (book : List ℤ) (e : Settings) (s : Booked) where

@@ -2,14 +2,10 @@
 use mathlib.Core.Path.{◌≡◌, refl, sym, ap, ap₂, subst, ◌∙◌}
 use mathlib.Core.Bool.{Bool, true, false, cond}
 use mathlib.Core.List.{List, [], ◌∷◌, ◌++◌}
-use Prim.Native.Nat.{ℕ, zero, suc, ◌+◌, ◌*◌, ◌-◌, ◌^◌, ◌≤◌, ◌<◌}
+use Prim.Native.Nat.{ℕ, zero, suc, ◌+◌, ◌*◌, ◌-◌, ◌≤◌, ◌<◌}
 use native.Mathlib.Omega.{arith}
 use lib.Dec.{eqb}
-use lib.IntN.{ℤ}
-use lib.Signed.{mag}
-use mir.Syntax.{w64}
-use mir.Val.{to_z, of_z}
-use mir.Facts.{to_z-of_z}
+use lib.IntN.{ℤ, pos}
 use lib.ListN.{length, take, drop}
 use Rattle.whole.specs.Lists.{at, tab}
 use Rattle.table.specs.declared.Head.{Head}
@@ -23,34 +19,33 @@ use Rattle.table.proofs.Turns.{pour_turn, holds_of, holds_at}
 use Rattle.index.specs.Keys.{key_at}
 use Rattle.index.specs.Search.{entry_at, search}
 use Rattle.index.proofs.Equality.{key_at_length, stretch_fits, key_part}
-use Rattle.merge.specs.Source.{source_row, first_rows, Stretch, Stretches}
+use lib.Seq.{get_or-take, get_or-drop}
+use Rattle.merge.specs.Source.{source_row, first_rows}
 
 -- all of them are those of the table, where its dimension is d
 pub rows_all : (d : ℕ) (b : Settings) (s : Table) → d ≡ b.d → rows b s ≡ first_rows d s.keys s.sums s.m
 unfolding rows first_rows
 rows_all d b s e = ap (λ (d : ℕ). tab s.m (source_row d s.keys s.sums)) (sym e)
 
-pub stretch_of : (d : ℕ) (keys : List ℤ) (m i : ℕ) → Stretches d keys m → i < m → Stretch d keys i
-stretch_of d keys m i L l = record { d_most = L.d_most; few = omega (arith, L.few); inside = stretch_fits d i m (length keys) l L.inside }
+-- piece i of its lent keys is the key of row i
+pub piece_key : (d n i : ℕ) (keys : List ℤ) {k : List ℤ} → i < n → d * n ≤ length keys → k ≡ take d (drop (d * i) keys) → k ≡ key_at d keys i
+piece_key d n i keys l h e = let q : d ≡ d * i + d - d * i = omega arith in
+    e ∙ ap (λ (m : ℕ). take m (drop (d * i) keys)) q ∙ key_part d keys i (stretch_fits d i n (length keys) l h)
 
--- the stretch of row i is its key
-pub stretch_is : (d : ℕ) (keys : List ℤ) (i : ℕ) → Stretch d keys i → take (d * i + d - d * i) (drop (d * i) keys) ≡ key_at d keys i
-stretch_is d keys i L = key_part d keys i L.inside
+pub piece_size : (d n i : ℕ) (keys : List ℤ) {k : List ℤ} → i < n → d * n ≤ length keys → k ≡ take d (drop (d * i) keys) → length k ≡ d
+piece_size d n i keys l h e = ap length (piece_key d n i keys l h e) ∙ key_at_length d keys i
 
-pub stretch_size : (d : ℕ) (keys : List ℤ) (i : ℕ) → Stretch d keys i → length (take (d * i + d - d * i) (drop (d * i) keys)) ≡ d
-stretch_size d keys i L = ap length (stretch_is d keys i L) ∙ key_at_length d keys i
+-- a number of pair i of its lent sums
+pub pair_number : (sums : List ℤ) (i j : ℕ) {p : List ℤ} {x : ℤ} → j < 2 → p ≡ take 2 (drop (2 * i) sums) → x ≡ at p j → x ≡ at sums (2 * i + j)
+pair_number sums i j l e q = q ∙ ap (λ (p : List ℤ). at p j) e ∙ get_or-take 2 (drop (2 * i) sums) j (pos 0) l ∙ get_or-drop (2 * i) sums j (pos 0)
 
--- a number that was read from a slice of 64-bit numbers is itself
-pub read_back : {z : ℤ} → mag z < 2 ^ 63 → to_z w64 (of_z w64 z) ≡ z
-read_back h = to_z-of_z {w = w64} (record { sfits = h })
-
--- row i as a function lends it on: from its stretch, and with m and v for its pair
-module _ (c : Settings) (t : Table) (keys sums : List ℤ) (i : ℕ) (m v : ℤ) (L : Stretch c.d keys i) (p : m ≡ at sums (2 * i)) (q : v ≡ at sums (2 * i + 1)) where
+-- row i as it is lent on, with its key and its pair
+module _ (c : Settings) (t : Table) (keys sums : List ℤ) (i : ℕ) {k : List ℤ} {m v : ℤ} (e : k ≡ key_at c.d keys i) (p : m ≡ at sums (2 * i + 0)) (q : v ≡ at sums (2 * i + 1)) where
   abbrev lent : Row
-  lent = record { key = take (c.d * i + c.d - c.d * i) (drop (c.d * i) keys); mass = m; value = v }
+  lent = record { key = k; mass = m; value = v }
 
   row_is : lent ≡ source_row c.d keys sums i
-  row_is = λ j. record { key = stretch_is c.d keys i L j; mass = p j; value = q j }
+  row_is = let z : 2 * i + 0 ≡ 2 * i = omega arith in λ j. record { key = e j; mass = (p ∙ ap (at sums) z) j; value = q j }
 
   pub row_lent : Addable c t (source_row c.d keys sums i) → Addable c t lent
   row_lent A = subst (Addable c t) (sym row_is) A

@@ -1,5 +1,5 @@
 -- The rows of a source in its lent keys and sums, one after the other: what functions inside the crate ask of one another.
-use Rattle.std.specs.Prelude.{◌≡◌, true, List, ℕ, ◌+◌, ◌*◌, ◌≤◌, ◌<◌, ℤ, length}
+use Rattle.std.specs.Prelude.{◌≡◌, true, List, ℕ, ◌+◌, ◌*◌, ◌≤◌, ℤ, length}
 use Rattle.whole.specs.Lists.{at, tab}
 use Rattle.lattice.specs.Limits.{most_d, most_C, most_readings}
 use Rattle.index.specs.Keys.{key_at}
@@ -17,19 +17,9 @@ source_row d keys sums i = record { key = key_at d keys i; mass = at sums (2 * i
 unfoldable pub first_rows : ℕ → List ℤ → List ℤ → ℕ → List Row
 first_rows d keys sums i = tab i (source_row d keys sums)
 
--- Lent keys that have the stretch of row i.
-pub record Stretch (d : ℕ) (keys : List ℤ) (i : ℕ) : Type 0 where
-  pub d_most : d ≤ most_d
-  pub few : i ≤ most_C
-  pub inside : d * i + d ≤ length keys
-
--- Lent keys and sums that have the stretch and the pair of row i.
-pub record InSource (d : ℕ) (keys sums : List ℤ) (i : ℕ) : Type 0 where
-  pub stretch : Stretch d keys i
-  pub pair : 2 * i + 1 < length sums
-
 -- Lent keys that have the stretches of m rows.
 pub record Stretches (d : ℕ) (keys : List ℤ) (m : ℕ) : Type 0 where
+  pub d_least : 1 ≤ d
   pub d_most : d ≤ most_d
   pub few : m ≤ most_C
   pub inside : d * m ≤ length keys

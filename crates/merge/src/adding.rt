@@ -16,8 +16,7 @@ fn put_entries(book: &mut [i32], d: usize, n: usize, source_book: &[i32], count:
     ensures { book.new ≡ splice book.old ((d + 3) * n) (take ((d + 3) * count) source_book.now) }
 {
     let width = d + 3;
-    let end = width * count;
-    write_at(book, width * n, &source_book[0..end]);
+    write_at(book, width * n, &source_book[..width * count]);
 }
 
 // Answers how many points are stored then.

@@ -23,23 +23,27 @@ abbrev other : Start → Booked
 other s = booked s.args.source s.args.source_keys.now s.args.source_sums.now s.args.source_index.now s.args.source_book.now
 
 -- no refusal is met
-none : (c : Else-number-ne0) → 0 ≡ merge_refusal (of c.before.before.before.before.before) (the c.before.before.before.before.before) (from c.before.before.before.before.before) (other c.before.before.before.before.before)
+none : (c : Else-number-ne0) → let s = (goal.at.Else-number-ne0 c).Start in 0 ≡ merge_refusal (of s) (the s) (from s) (other s)
 none c = sym c.if-number-ne0.false ∙ c.merge_refusal-number.ensures
 
 pub returns-then-number-ne0 : goal.returns-then-number-ne0
 returns-then-number-ne0 c =
     let a = c.args in
-    refused a.head a.keys.now a.sums.now a.index.now a.book.now (from (goal.at.returns-then-number-ne0 c).Start) (other (goal.at.returns-then-number-ne0 c).Start) _ c.merge_refusal-number.ensures c.if-number-ne0.true
+    let s = (goal.at.returns-then-number-ne0 c).Start in
+    refused a.head a.keys.now a.sums.now a.index.now a.book.now (from s) (other s) _ c.merge_refusal-number.ensures c.if-number-ne0.true
 
 pub add_source-points-requires : goal.add_source-points-requires
 add_source-points-requires c =
-    record { fact = pouring (of (goal.at.add_source-points-requires c).Start) (the (goal.at.add_source-points-requires c).Start) (from (goal.at.add_source-points-requires c).Start) (other (goal.at.add_source-points-requires c).Start) (sym (none (goal.at.add_source-points-requires c).Else-number-ne0)); entries_to_put = putting (of (goal.at.add_source-points-requires c).Start) (the (goal.at.add_source-points-requires c).Start) (from (goal.at.add_source-points-requires c).Start) (other (goal.at.add_source-points-requires c).Start) (sym (none (goal.at.add_source-points-requires c).Else-number-ne0)) }
+    let g = goal.at.add_source-points-requires c in
+    let z = sym (none g.Else-number-ne0) in record { fact = pouring (of g.Start) (the g.Start) (from g.Start) (other g.Start) z; entries_to_put = putting (of g.Start) (the g.Start) (from g.Start) (other g.Start) z }
 
 pub overflow_add-head : goal.overflow_add-head
 overflow_add-head c =
-    record { fits = omega (arith, (putting (of (goal.at.overflow_add-head c).Start) (the (goal.at.overflow_add-head c).Start) (from (goal.at.overflow_add-head c).Start) (other (goal.at.overflow_add-head c).Start) (sym (none (goal.at.overflow_add-head c).Else-number-ne0))).few) }
+    let g = goal.at.overflow_add-head c in
+    record { fits = omega (arith, (putting (of g.Start) (the g.Start) (from g.Start) (other g.Start) (sym (none g.Else-number-ne0))).few) }
 
 pub returns : goal.returns
 returns c =
     let a = c.args in
-    done a.head a.keys.now a.sums.now a.index.now a.book.now (from (goal.at.returns c).Start) (other (goal.at.returns c).Start) _ _ _ _ _ _ (none (goal.at.returns c).Else-number-ne0) c.add_source-points.ensures c.with_counts.ensures
+    let g = goal.at.returns c in
+    done a.head a.keys.now a.sums.now a.index.now a.book.now (from g.Start) (other g.Start) _ _ _ _ _ _ (none g.Else-number-ne0) c.add_source-points.ensures c.with_counts.ensures

@@ -9,109 +9,77 @@ use Rattle.book.specs.Calls.{in_range, all_fit}
 use Rattle.book.specs.Heads.{booked}
 use Rattle.merge.proofs.Refusing.{can_fit, can_be_carried, out_of_range, source_out_of_range, length_other, source_length_other, unsound, source_unsound, each_sound}
 use Rattle.merge.proofs.judging.each_refusal.Goals as goal
+use Rattle.merge.proofs.judging.each_refusal.Goals.{Start, Else-not-in_range, Else-not-in_range-2, Else-not-slices_fit, Else-not-slices_fit-2, Else-not-is_carried}
 
+abbrev of : Start → Settings
+of s = settings s.args.head
+
+abbrev the : Start → Booked
+the s = booked s.args.head s.args.keys.now s.args.sums.now s.args.index.now s.args.book.now
+
+abbrev from : Start → Settings
+from s = settings s.args.source
+
+abbrev other : Start → Booked
+other s = booked s.args.source s.args.source_keys.now s.args.source_sums.now s.args.source_index.now s.args.source_book.now
+
+-- ---- the tests in their order: where one fails, and that it was passed, for those behind it
 pub returns-then-not-in_range : goal.returns-then-not-in_range
-returns-then-not-in_range c =
-    let of : Settings = settings c.args.head in
-    let the : Booked = booked c.args.head c.args.keys.now c.args.sums.now c.args.index.now c.args.book.now in
-    let from : Settings = settings c.args.source in
-    let other : Booked = booked c.args.source c.args.source_keys.now c.args.source_sums.now c.args.source_index.now c.args.source_book.now in
-    out_of_range of the from other (failed (in_range of the) c.in_range.ensures c.if-not-in_range.true-raw)
+returns-then-not-in_range c = out_of_range _ _ _ _ (failed _ c.in_range.ensures c.if-not-in_range.true-raw)
+
+in_range₁ : (c : Else-not-in_range) → let s = (goal.at.Else-not-in_range c).Start in in_range (of s) (the s) ≡ true
+in_range₁ c = passed _ c.in_range.ensures c.if-not-in_range.false-raw
 
 pub returns-then-not-in_range-2 : goal.returns-then-not-in_range-2
-returns-then-not-in_range-2 c =
-    let of : Settings = settings c.args.head in
-    let the : Booked = booked c.args.head c.args.keys.now c.args.sums.now c.args.index.now c.args.book.now in
-    let from : Settings = settings c.args.source in
-    let other : Booked = booked c.args.source c.args.source_keys.now c.args.source_sums.now c.args.source_index.now c.args.source_book.now in
-    let in₁ : in_range of the ≡ true = passed _ c.in_range.ensures c.if-not-in_range.false-raw in
-    source_out_of_range of the from other in₁ (failed (in_range from other) c.in_range-2.ensures c.if-not-in_range-2.true-raw)
+returns-then-not-in_range-2 c = let g = goal.at.returns-then-not-in_range-2 c in
+    source_out_of_range _ _ _ _ (in_range₁ g.Else-not-in_range) (failed _ c.in_range-2.ensures c.if-not-in_range-2.true-raw)
+
+in_range₂ : (c : Else-not-in_range-2) → let s = (goal.at.Else-not-in_range-2 c).Start in in_range (from s) (other s) ≡ true
+in_range₂ c = passed _ c.in_range-2.ensures c.if-not-in_range-2.false-raw
 
 pub slices_fit-requires : goal.slices_fit-requires
-slices_fit-requires c =
-    let of : Settings = settings c.args.head in
-    let the : Booked = booked c.args.head c.args.keys.now c.args.sums.now c.args.index.now c.args.book.now in
-    let in₁ : in_range of the ≡ true = passed _ c.in_range.ensures c.if-not-in_range.false-raw in
-    can_fit of the in₁
+slices_fit-requires c = let g = goal.at.slices_fit-requires c in can_fit (of g.Start) (the g.Start) (in_range₁ g.Else-not-in_range)
 
 pub returns-then-not-slices_fit : goal.returns-then-not-slices_fit
-returns-then-not-slices_fit c =
-    let of : Settings = settings c.args.head in
-    let the : Booked = booked c.args.head c.args.keys.now c.args.sums.now c.args.index.now c.args.book.now in
-    let from : Settings = settings c.args.source in
-    let other : Booked = booked c.args.source c.args.source_keys.now c.args.source_sums.now c.args.source_index.now c.args.source_book.now in
-    let in₁ : in_range of the ≡ true = passed _ c.in_range.ensures c.if-not-in_range.false-raw in
-    let in₂ : in_range from other ≡ true = passed _ c.in_range-2.ensures c.if-not-in_range-2.false-raw in
-    length_other of the from other in₁ in₂ (failed (all_fit of the) c.slices_fit.ensures c.if-not-slices_fit.true-raw)
+returns-then-not-slices_fit c = let g = goal.at.returns-then-not-slices_fit c in
+    length_other _ _ _ _ (in_range₁ g.Else-not-in_range) (in_range₂ g.Else-not-in_range-2) (failed _ c.slices_fit.ensures c.if-not-slices_fit.true-raw)
+
+fit₁ : (c : Else-not-slices_fit) → let s = (goal.at.Else-not-slices_fit c).Start in all_fit (of s) (the s) ≡ true
+fit₁ c = passed _ c.slices_fit.ensures c.if-not-slices_fit.false-raw
 
 pub slices_fit-requires-2 : goal.slices_fit-requires-2
-slices_fit-requires-2 c =
-    let from : Settings = settings c.args.source in
-    let other : Booked = booked c.args.source c.args.source_keys.now c.args.source_sums.now c.args.source_index.now c.args.source_book.now in
-    let in₂ : in_range from other ≡ true = passed _ c.in_range-2.ensures c.if-not-in_range-2.false-raw in
-    can_fit from other in₂
+slices_fit-requires-2 c = let g = goal.at.slices_fit-requires-2 c in can_fit (from g.Start) (other g.Start) (in_range₂ g.Else-not-in_range-2)
 
 pub returns-then-not-slices_fit-2 : goal.returns-then-not-slices_fit-2
-returns-then-not-slices_fit-2 c =
-    let of : Settings = settings c.args.head in
-    let the : Booked = booked c.args.head c.args.keys.now c.args.sums.now c.args.index.now c.args.book.now in
-    let from : Settings = settings c.args.source in
-    let other : Booked = booked c.args.source c.args.source_keys.now c.args.source_sums.now c.args.source_index.now c.args.source_book.now in
-    let in₁ : in_range of the ≡ true = passed _ c.in_range.ensures c.if-not-in_range.false-raw in
-    let in₂ : in_range from other ≡ true = passed _ c.in_range-2.ensures c.if-not-in_range-2.false-raw in
-    let in₃ : all_fit of the ≡ true = passed _ c.slices_fit.ensures c.if-not-slices_fit.false-raw in
-    source_length_other of the from other in₁ in₂ in₃ (failed (all_fit from other) c.slices_fit-2.ensures c.if-not-slices_fit-2.true-raw)
+returns-then-not-slices_fit-2 c = let g = goal.at.returns-then-not-slices_fit-2 c in
+    source_length_other _ _ _ _ (in_range₁ g.Else-not-in_range) (in_range₂ g.Else-not-in_range-2) (fit₁ g.Else-not-slices_fit) (failed _ c.slices_fit-2.ensures c.if-not-slices_fit-2.true-raw)
+
+fit₂ : (c : Else-not-slices_fit-2) → let s = (goal.at.Else-not-slices_fit-2 c).Start in all_fit (from s) (other s) ≡ true
+fit₂ c = passed _ c.slices_fit-2.ensures c.if-not-slices_fit-2.false-raw
 
 pub is_carried-requires : goal.is_carried-requires
 is_carried-requires c =
-    let of : Settings = settings c.args.head in
-    let the : Booked = booked c.args.head c.args.keys.now c.args.sums.now c.args.index.now c.args.book.now in
-    let in₁ : in_range of the ≡ true = passed _ c.in_range.ensures c.if-not-in_range.false-raw in
-    let in₃ : all_fit of the ≡ true = passed _ c.slices_fit.ensures c.if-not-slices_fit.false-raw in
-    let r = can_be_carried of the in₁ in₃ in record { ranged = r.0; shape = r.1.0; room_le_most_readings = r.1.1 }
+    let g = goal.at.is_carried-requires c in
+    let r = can_be_carried (of g.Start) (the g.Start) (in_range₁ g.Else-not-in_range) (fit₁ g.Else-not-slices_fit) in record { ranged = r.0; shape = r.1.0; room_le_most_readings = r.1.1 }
 
 pub returns-then-not-is_carried : goal.returns-then-not-is_carried
-returns-then-not-is_carried c =
-    let of : Settings = settings c.args.head in
-    let the : Booked = booked c.args.head c.args.keys.now c.args.sums.now c.args.index.now c.args.book.now in
-    let from : Settings = settings c.args.source in
-    let other : Booked = booked c.args.source c.args.source_keys.now c.args.source_sums.now c.args.source_index.now c.args.source_book.now in
-    let in₁ : in_range of the ≡ true = passed _ c.in_range.ensures c.if-not-in_range.false-raw in
-    let in₂ : in_range from other ≡ true = passed _ c.in_range-2.ensures c.if-not-in_range-2.false-raw in
-    let in₃ : all_fit of the ≡ true = passed _ c.slices_fit.ensures c.if-not-slices_fit.false-raw in
-    let in₄ : all_fit from other ≡ true = passed _ c.slices_fit-2.ensures c.if-not-slices_fit-2.false-raw in
-    unsound of the from other in₁ in₂ in₃ in₄ (failed (sound_with_book of the) c.is_carried.ensures c.if-not-is_carried.true-raw)
+returns-then-not-is_carried c = let g = goal.at.returns-then-not-is_carried c in
+    unsound _ _ _ _ (in_range₁ g.Else-not-in_range) (in_range₂ g.Else-not-in_range-2) (fit₁ g.Else-not-slices_fit) (fit₂ g.Else-not-slices_fit-2) (failed _ c.is_carried.ensures c.if-not-is_carried.true-raw)
+
+sound₁ : (c : Else-not-is_carried) → let s = (goal.at.Else-not-is_carried c).Start in sound_with_book (of s) (the s) ≡ true
+sound₁ c = passed _ c.is_carried.ensures c.if-not-is_carried.false-raw
 
 pub is_carried-requires-2 : goal.is_carried-requires-2
 is_carried-requires-2 c =
-    let from : Settings = settings c.args.source in
-    let other : Booked = booked c.args.source c.args.source_keys.now c.args.source_sums.now c.args.source_index.now c.args.source_book.now in
-    let in₂ : in_range from other ≡ true = passed _ c.in_range-2.ensures c.if-not-in_range-2.false-raw in
-    let in₄ : all_fit from other ≡ true = passed _ c.slices_fit-2.ensures c.if-not-slices_fit-2.false-raw in
-    let r = can_be_carried from other in₂ in₄ in record { ranged = r.0; shape = r.1.0; room_le_most_readings = r.1.1 }
+    let g = goal.at.is_carried-requires-2 c in
+    let r = can_be_carried (from g.Start) (other g.Start) (in_range₂ g.Else-not-in_range-2) (fit₂ g.Else-not-slices_fit-2) in record { ranged = r.0; shape = r.1.0; room_le_most_readings = r.1.1 }
 
 pub returns-then-not-is_carried-2 : goal.returns-then-not-is_carried-2
-returns-then-not-is_carried-2 c =
-    let of : Settings = settings c.args.head in
-    let the : Booked = booked c.args.head c.args.keys.now c.args.sums.now c.args.index.now c.args.book.now in
-    let from : Settings = settings c.args.source in
-    let other : Booked = booked c.args.source c.args.source_keys.now c.args.source_sums.now c.args.source_index.now c.args.source_book.now in
-    let in₁ : in_range of the ≡ true = passed _ c.in_range.ensures c.if-not-in_range.false-raw in
-    let in₂ : in_range from other ≡ true = passed _ c.in_range-2.ensures c.if-not-in_range-2.false-raw in
-    let in₃ : all_fit of the ≡ true = passed _ c.slices_fit.ensures c.if-not-slices_fit.false-raw in
-    let in₄ : all_fit from other ≡ true = passed _ c.slices_fit-2.ensures c.if-not-slices_fit-2.false-raw in
-    let in₅ : sound_with_book of the ≡ true = passed _ c.is_carried.ensures c.if-not-is_carried.false-raw in
-    source_unsound of the from other in₁ in₂ in₃ in₄ in₅ (failed (sound_with_book from other) c.is_carried-2.ensures c.if-not-is_carried-2.true-raw)
+returns-then-not-is_carried-2 c = let g = goal.at.returns-then-not-is_carried-2 c in
+    source_unsound _ _ _ _ (in_range₁ g.Else-not-in_range) (in_range₂ g.Else-not-in_range-2) (fit₁ g.Else-not-slices_fit) (fit₂ g.Else-not-slices_fit-2) (sound₁ g.Else-not-is_carried)
+    (failed _ c.is_carried-2.ensures c.if-not-is_carried-2.true-raw)
 
 pub returns : goal.returns
-returns c =
-    let of : Settings = settings c.args.head in
-    let the : Booked = booked c.args.head c.args.keys.now c.args.sums.now c.args.index.now c.args.book.now in
-    let from : Settings = settings c.args.source in
-    let other : Booked = booked c.args.source c.args.source_keys.now c.args.source_sums.now c.args.source_index.now c.args.source_book.now in
-    let in₁ : in_range of the ≡ true = passed _ c.in_range.ensures c.if-not-in_range.false-raw in
-    let in₂ : in_range from other ≡ true = passed _ c.in_range-2.ensures c.if-not-in_range-2.false-raw in
-    let in₃ : all_fit of the ≡ true = passed _ c.slices_fit.ensures c.if-not-slices_fit.false-raw in
-    let in₄ : all_fit from other ≡ true = passed _ c.slices_fit-2.ensures c.if-not-slices_fit-2.false-raw in
-    let in₅ : sound_with_book of the ≡ true = passed _ c.is_carried.ensures c.if-not-is_carried.false-raw in
-    each_sound of the from other in₁ in₂ in₃ in₄ in₅ (passed (sound_with_book from other) c.is_carried-2.ensures c.if-not-is_carried-2.false-raw)
+returns c = let g = goal.at.returns c in
+    each_sound _ _ _ _ (in_range₁ g.Else-not-in_range) (in_range₂ g.Else-not-in_range-2) (fit₁ g.Else-not-slices_fit) (fit₂ g.Else-not-slices_fit-2) (sound₁ g.Else-not-is_carried)
+    (passed _ c.is_carried-2.ensures c.if-not-is_carried-2.false-raw)
