@@ -1,8 +1,8 @@
 -- A test of each element of a list, told by places, as the definitions tell it: what a chain over a slice or a range answers. Assumes nothing.
 use mathlib.Core.Path.{◌≡◌, refl, ap, sym, subst, ◌∙◌}
 use mathlib.Core.Bool.{Bool, true, false, ◌&&◌, true≢false}
-use mathlib.Core.List.{List, [], ◌∷◌}
-use Prim.Native.Nat.{ℕ, zero, suc, ◌*◌, ◌<◌, ◌≤◌}
+use mathlib.Core.List.{List, [], ◌∷◌, ◌++◌}
+use Prim.Native.Nat.{ℕ, zero, suc, ◌+◌, ◌*◌, ◌<◌, ◌≤◌}
 use native.Mathlib.Nat.{mul-le-mul_right}
 use native.Mathlib.Decide.{dec_lt}
 use native.Mathlib.Omega.{arith}
@@ -10,7 +10,9 @@ use denote.Ref.{Bor}
 use lib.Dec.{T}
 use lib.ListN.{length, get_or}
 use Rattle.std.specs.Bool.{MatchBool}
-use Rattle.std.specs.Iterator.Runs.{Run, HasSameItems, IsStepByRun, ItemsMapTo}
+use Rattle.std.proofs.iter.runs.Made.{run_of_turn, run_of_exit}
+use Rattle.std.specs.Iterator.{Yields}
+use Rattle.std.specs.Iterator.Runs.{Run, SomeRun, WholeRun, HasSameItems, IsStepByRun, ItemsMapTo}
 use Rattle.std.specs.List.{list_all, range_with_len}
 use Rattle.std.specs.Option.{IfSome, IsSomeAnd, is_some, option_map}
 use Rattle.std.specs.declared.option.Option.{Option}
@@ -87,3 +89,12 @@ module _ {S T U A : Type 0} {takes : S → Option (Bor A) → S → Type 0} {str
           let m : suc p.len * w ≤ n * w = mul-le-mul_right w k in
           let all : r.len ≡ length l = reads.1 (steps.0 ∙ ends h k) in
           absurd (omega (arith, m, all, room, steps.2, same.0, some, ap (λ (i : ℕ). i * w) same.0))
+
+-- the run that a loop has made, at the item of a turn and at its end
+pub turned : {S A : Type 0} {steps : S → Option A → S → Type 0} {s : S} (xs : List A) (t : S) → Yields steps s xs t → (r : Option A) (u : S) (x : A) → r ≡ Some x → steps t r u
+    → SomeRun steps s (λ p. (p.items ≡ xs ++ (x ∷ [])) × (p.len ≡ length xs + 1) × (p.at (length xs) ≡ Some x))
+turned {steps = steps} {s = s} xs t y r u x e k = run_of_turn steps s xs t y x u (subst (λ (r : Option _). steps t r u) e k)
+
+pub ended : {S A : Type 0} {steps : S → Option A → S → Type 0} {s : S} (xs : List A) (t : S) → Yields steps s xs t → (r : Option A) (u : S) → r ≡ None → steps t r u
+    → WholeRun steps s (λ p. (p.items ≡ xs) × (p.len ≡ length xs))
+ended {steps = steps} {s = s} xs t y r u e k = run_of_exit steps s xs t y u (subst (λ (r : Option _). steps t r u) e k)
