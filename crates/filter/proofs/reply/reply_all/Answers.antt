@@ -12,12 +12,12 @@ pub loop-j-preserved : goal.loop-j-preserved
 loop-j-preserved c =
     let i = c.loop-j.invariant in
     let s = c.in-Some.ensures.steps in
-    let f : SFits w32 c.reply_at-reply.result.value = search rules in
+    let f : SFits w32 c.value_and_code-value.result.0 = search rules in
     rw (length_push c.loop-j.yielded (c.in-Some.j, c.in-Some.query), s.1 ∙ i.2.count) (
       search rules,
       tt,
       left_more _ _ _ (omega arith) i.2 c.next.new.self c.in-Some.query s.0 s.2,
-      one_more_lem _ (one_in _ _ _ (omega arith) i.2 c.next.new.self c.in-Some.query s.0) i.3 (query_is _ _ _ (omega arith) i.2 c.next.new.self c.in-Some.query s.0) (rw (to_z-of_z f) c.reply_at-reply.ensures),
+      one_more_lem _ (one_in _ _ _ (omega arith) i.2 c.next.new.self c.in-Some.query s.0) i.3 (query_is _ _ _ (omega arith) i.2 c.next.new.self c.in-Some.query s.0) (rw (to_z-of_z f, c.value_and_code-value.ensures.0, c.value_and_code-value.ensures.1) c.reply_at.ensures),
     )
 
 pub returns : goal.returns
