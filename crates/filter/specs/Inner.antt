@@ -1,5 +1,6 @@
 -- What the functions that answer queries ask of one another and leave. The sums of the table here are a sheet of blurred pairs.
-use Rattle.std.specs.Prelude.{◌≡◌, Bool, not, cond, ◌&&◌, List, ℕ, suc, ◌<◌, leb, ℤ, pos, neg_ℤ, nat_abs, ◌*ℤ◌, length, take, ◌≤ℤ◌, Result, Ok, Err}
+use Rattle.std.specs.Prelude.{◌≡◌, Bool, not, cond, ◌&&◌, List, ℕ, suc, ◌<◌, leb, ℤ, pos, neg_ℤ, nat_abs, ◌*ℤ◌, length, take, ◌≤ℤ◌, Result}
+use Rattle.std.specs.Result.{result_unwrap_or}
 use Rattle.whole.specs.Size.{Abs≤}
 use Rattle.whole.specs.Rounding.{rounded, most_fraction}
 use Rattle.whole.specs.Sum.{over}
@@ -18,8 +19,7 @@ use Rattle.filter.specs.Filter.{query_at, query_count, lent_fits}
 
 -- the value of a reply, and 0 beside a code
 abbrev pub value_told : Result ℤ Refusal → ℤ
-value_told (Ok value) = value
-value_told (Err _) = pos 0
+value_told reply = result_unwrap_or reply (pos 0)
 
 -- 1 at a stored point, and 0 elsewhere
 abbrev pub ones : Settings → Table → List ℤ → ℤ
