@@ -1,5 +1,5 @@
 -- A key moved by a step: what a step has at a place, and places filled from the front with the moved coordinates.
-use mathlib.Core.Path.{◌≡◌, refl, sym, ap, ap₂, ◌∙◌}
+use mathlib.Core.Path.{◌≡◌, refl, ap₂, ◌∙◌}
 use mathlib.Core.Bool.{Bool, true, false, cond}
 use mathlib.Core.List.{List}
 use Prim.Native.Nat.{ℕ, ◌≤◌, ◌<◌}
@@ -16,7 +16,7 @@ use Rattle.whole.specs.Size.{Abs≤}
 use Rattle.whole.specs.Lists.{at, tab}
 use Rattle.whole.proofs.Signed.{zlin, W32}
 use Rattle.whole.proofs.Size.{zabs, back32}
-use Rattle.whole.proofs.Lists.{length_tab, tab_is}
+use Rattle.whole.proofs.Lists.{tab_is}
 use Rattle.lattice.specs.Limits.{most_d, farthest_point}
 use Rattle.blur.specs.Blur.{step, plus_step, minus_step}
 use Rattle.blur.specs.Inner.{Movable, neighbour_of}
@@ -46,9 +46,6 @@ pub neighbour_tab : (plus : Bool) (d k : ℕ) (y : List ℤ) → tab d (moved_at
 unfolding plus_step minus_step
 neighbour_tab true d k y = refl
 neighbour_tab false d k y = refl
-
-pub neighbour_length : (plus : Bool) (d k : ℕ) (y : List ℤ) → length (neighbour_of plus d k y) ≡ d
-neighbour_length plus d k y = ap length (sym (neighbour_tab plus d k y)) ∙ length_tab d (moved_at plus d k y)
 
 -- one coordinate: the numbers that the machine has are small, so they are the key's and the step's own
 module _ (y : List ℤ) (Y : Movable y) (k i : ℕ) (h : i < length y) {s : ℤ} (e : s ≡ step (length y) k i) where

@@ -2,7 +2,8 @@
 use mathlib.Core.Path.{◌≡◌, refl, sym, ap, ◌∙◌}
 use mathlib.Core.Bool.{Bool, true, false, ◌&&◌}
 use mathlib.Core.List.{List}
-use Prim.Native.Nat.{ℕ, zero, suc, ◌*◌, ◌%◌}
+use Prim.Native.Nat.{ℕ, zero, suc, ◌+◌, ◌*◌, ◌/◌, ◌%◌}
+use native.Mathlib.Numerals.{add-one}
 use lib.Dec.{T, eqb, leb, eqb→eq}
 use lib.IntN.{ℤ}
 use lib.ListN.{length}
@@ -31,6 +32,29 @@ use Rattle.filter.proofs.Answers.{smooth, code_same, value_same}
 -- ---- the lengths of what is lent
 abbrev pub lengths_fit : Settings → List ℤ → Lent → Bool
 lengths_fit c queries l = lent_fits_ranged c.d c.C (length l.first) (length l.second) (length queries) (length l.values) (length l.codes)
+
+-- a test after others
+pub and_then : {v a b : Bool} → a ≡ true → v ≡ b → v ≡ a && b
+and_then e f = rw e f
+
+pub and_else : {v a : Bool} (b : Bool) → a ≡ false → v ≡ a → v ≡ a && b
+and_else b e f = f ∙ rw e refl
+
+-- the tests of the lengths in the order that the program makes them
+pub fits_joined : (d C first second queries values' codes : ℕ) {r e f g h : Bool} → r ≡ leb d most_d && leb C most_C → e ≡ r && eqb first (2 * C)
+    → f ≡ e && eqb second (2 * C) → g ≡ f && eqb (queries % (d + 1)) 0 → h ≡ g && eqb values' (queries / (d + 1))
+    → h && eqb codes (queries / (d + 1)) ≡ lent_fits_ranged d C first second queries values' codes
+unfolding lent_fits_ranged lent_fits
+fits_joined d C first second queries values' codes R E F G H = rw (H, G, F, E, R, add-one) (joined (leb d most_d && leb C most_C) (eqb first (2 * C)) (eqb second (2 * C))
+    (eqb (queries % suc d) 0) (eqb values' (queries / suc d)) (eqb codes (queries / suc d)))
+  where
+    last : (a b c : Bool) → (a && b) && c ≡ a && (b && c)
+    last true b c = refl
+    last false b c = refl
+
+    joined : (r a b q v c : Bool) → ((((r && a) && b) && q) && v) && c ≡ r && (((a && b) && q) && (v && c))
+    joined true a b q v c = last ((a && b) && q) v c
+    joined false a b q v c = refl
 
 same_in_range : (c : Settings) → Ranged c → (queries : List ℤ) (l : Lent) → lengths_fit c queries l ≡ lent_fits c.d c.C (length l.first) (length l.second) (length queries) (length l.values) (length l.codes)
 unfolding lent_fits_ranged

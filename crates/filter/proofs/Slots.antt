@@ -11,16 +11,16 @@ use lib.IntN.{ℤ, pos, ◌+ℤ◌, ◌*ℤ◌, +ℤ_idr, zero-*ℤ, *ℤ-zero}
 use lib.ListN.{get_or, take, drop}
 use lib.Signed.{◌≤ℤ◌, ≤ℤ_refl}
 use mir.Syntax.{w64}
-use mir.Val.{SFits, to_z}
+use mir.Val.{SFits}
 use mir.ValLaws.{to_z-of_z}
 use borrow.Author.Tests.{eq-eqb, ne_eqb, ltb-false}
 use Rattle.whole.specs.Size.{Abs≤}
 use Rattle.whole.specs.Sum.{over}
 use Rattle.whole.specs.Lists.{at, tab, collect}
-use Rattle.whole.proofs.Parts.{zin, le_in}
+use Rattle.whole.proofs.Parts.{le_in}
 use Rattle.whole.proofs.Linear.{on, difs, ints}
-use Rattle.whole.proofs.Signed.{zlow, zeq, W64}
-use Rattle.whole.proofs.Size.{fits64}
+use Rattle.whole.proofs.Signed.{W64}
+use Rattle.whole.proofs.Size.{abs_times, fits64, back64}
 use Rattle.whole.proofs.Sum.{over_append}
 use Rattle.lattice.specs.Limits.{most_W}
 use Rattle.simplex.specs.Slots.{slot}
@@ -47,12 +47,15 @@ heft_low (p ∷ ps) = lin p.1 (heft ps) (heft_low ps)
     lin w = on _ λ a b. simp difs (omega ints)
 
 -- a part weighs no more than the whole
-heft_parts : (l m r : List (List ℤ × ℕ)) (w : ℤ) → heft (l ++ (m ++ r)) ≤ℤ w → (heft (l ++ m) ≤ℤ w) × (heft m ≤ℤ w)
+heft_parts : (l m r : List (List ℤ × ℕ)) (w : ℤ) → heft (l ++ (m ++ r)) ≤ℤ w → (heft l ≤ℤ w) × (heft (l ++ m) ≤ℤ w) × (heft m ≤ℤ w)
 heft_parts l m r w h =
     let f : List ℤ × ℕ → ℤ = λ p. pos p.1 in
     let k : (heft l +ℤ (heft m +ℤ heft r)) ≤ℤ w = subst (λ (z : ℤ). z ≤ℤ w) (over_append l (m ++ r) f ∙ ap (λ (z : ℤ). heft l +ℤ z) (over_append m r f)) h in
-    (rw (over_append l m f) (left (heft l) (heft m) (heft r) w (heft_low r) k), right (heft l) (heft m) (heft r) w (heft_low l) (heft_low r) k)
+    (first (heft l) (heft m) (heft r) w (heft_low m) (heft_low r) k, rw (over_append l m f) (left (heft l) (heft m) (heft r) w (heft_low r) k), right (heft l) (heft m) (heft r) w (heft_low l) (heft_low r) k)
   where
+    first : (a b c w : ℤ) → pos 0 ≤ℤ b → pos 0 ≤ℤ c → (a +ℤ (b +ℤ c)) ≤ℤ w → a ≤ℤ w
+    first = on _ λ a b. on _ λ c d. on _ λ e f. on _ λ g h. simp difs (omega ints)
+
     left : (a b c w : ℤ) → pos 0 ≤ℤ c → (a +ℤ (b +ℤ c)) ≤ℤ w → (a +ℤ b) ≤ℤ w
     left = on _ λ a b. on _ λ c d. on _ λ e f. on _ λ g h. simp difs (omega ints)
 
@@ -74,13 +77,10 @@ module _ (c : Settings) (t : Table) (R : Readable c t) (small : (j : ℕ) → Ab
   sheet_small : (y : List ℤ) → Abs≤ (masses c t y) most_blurred × Abs≤ (values c t y) most_blurred
   sheet_small = held_small c t R most_blurred small
 
-  -- the pair of a point is small, and is what is read back from its bits
+  -- the pair of a point is small
   module _ {y : List ℤ} {stored : Bool} {mass value : ℤ} (X : PairIs c t y stored mass value) where
     pub pair_small : Abs≤ mass most_blurred × Abs≤ value most_blurred
     pair_small = rw (X.mass_is, X.value_is) (sheet_small y)
-
-    pub pair_back : PairIs c t y stored (W64 mass) (W64 value)
-    pair_back = record { stored_is = X.stored_is; mass_is = small_back pair_small.0 ∙ X.mass_is; value_is = small_back pair_small.1 ∙ X.value_is }
 
   -- the sums over points that together weigh at most 384 fit, and are what is read back
   module _ (ps : List (List ℤ × ℕ)) (light : heft ps ≤ℤ pos most_W) {weight mass value : ℤ} (X : WeighedIs c t ps weight mass value) where
@@ -142,17 +142,13 @@ slot_over d ws cs k f h = go (ℕ_discrete (get_or ws k 0) 0)
     go (no e) = rw (ne_eqb (get_or ws k 0) 0 e) (+ℤ_idr (f p))
 
 module _ (c : Settings) (t : Table) (ws : List ℕ) (cs : List ℤ) (Q : Weighable c t ws cs) (k : ℕ) (l : k < suc c.d) where
-  -- the slots before it with it, and it alone, weigh at most 384
-  light : (heft (collect k (slot c.d ws cs) ++ slot c.d ws cs k) ≤ℤ pos most_W) × (heft (slot c.d ws cs k) ≤ℤ pos most_W)
+  -- the slots before it, they with it, and it alone weigh at most 384
+  light : (heft (collect k (slot c.d ws cs)) ≤ℤ pos most_W) × (heft (collect k (slot c.d ws cs) ++ slot c.d ws cs k) ≤ℤ pos most_W) × (heft (slot c.d ws cs k) ≤ℤ pos most_W)
   light = let s = collect_parts (suc c.d) (slot c.d ws cs) k l in
       heft_parts (collect k (slot c.d ws cs)) (slot c.d ws cs k) s.0 (pos most_W) (subst (λ (ps : List (List ℤ × ℕ)). heft ps ≤ℤ pos most_W) s.1 Q.light)
 
   pub weight_small : get_or ws k 0 ≤ most_W
-  weight_small = omega (arith, le_in (pos (get_or ws k 0)) (pos most_W) (subst (λ (z : ℤ). z ≤ℤ pos most_W) (slot_over c.d ws cs k (λ p. pos p.1) (λ e. ap pos e)) light.1))
-
-  -- the weight, as it is read
-  pub weight_back : to_z w64 (get_or ws k 0) ≡ pos (get_or ws k 0)
-  weight_back = let w = weight_small in zeq (search zlow depth 14) (omega (arith, zin))
+  weight_small = omega (arith, le_in (pos (get_or ws k 0)) (pos most_W) (subst (λ (z : ℤ). z ≤ℤ pos most_W) (slot_over c.d ws cs k (λ p. pos p.1) (λ e. ap pos e)) light.2))
 
   -- the key, as it is lent
   abbrev kept : List ℤ
@@ -164,34 +160,60 @@ module _ (c : Settings) (t : Table) (ws : List ℕ) (cs : List ℤ) (Q : Weighab
       ∙ ap (λ (y : List ℤ). pos (get_or ws k 0) *ℤ f y) (sym (kept_part c.d cs k Q.readable.ranged.d_most l Q.coords_size))
 
   -- a point that is not stored gives nothing
-  pub slot_absent : is_stored c t kept ≡ false → WeighedIs c t (slot c.d ws cs k) (pos 0) (pos 0) (pos 0)
-  slot_absent e = record {
-    weight_is = sym (slot_weighed (ones c t) ∙ ap (λ (b : Bool). pos (get_or ws k 0) *ℤ cond b (pos 1) (pos 0)) e ∙ *ℤ-zero (pos (get_or ws k 0)));
+  pub slot_absent : {m v : ℤ} → PairIs c t kept false m v → WeighedIs c t (slot c.d ws cs k) (pos 0) (pos 0) (pos 0)
+  slot_absent X = record {
+    weight_is = sym (slot_weighed (ones c t) ∙ ap (λ (b : Bool). pos (get_or ws k 0) *ℤ cond b (pos 1) (pos 0)) (sym X.stored_is) ∙ *ℤ-zero (pos (get_or ws k 0)));
     mass_is = sym (slot_weighed (masses c t) ∙ ap (λ (n : ℕ). pos (get_or ws k 0) *ℤ (pair_at t.sums n).0) none ∙ *ℤ-zero (pos (get_or ws k 0)));
     value_is = sym (slot_weighed (values c t) ∙ ap (λ (n : ℕ). pos (get_or ws k 0) *ℤ (pair_at t.sums n).1) none ∙ *ℤ-zero (pos (get_or ws k 0)));
   }
     where
       none : found c t kept ≡ 0
-      none = omega (arith, ltb-false 0 (found c t kept) e)
+      none = omega (arith, ltb-false 0 (found c t kept) (sym X.stored_is))
 
-  -- one that is stored gives its weight, and its numbers times the weight
-  pub slot_present : {weight mass value m v : ℤ} {stored : Bool} → is_stored c t kept ≡ true → PairIs c t kept stored m v
-      → weight ≡ pos (get_or ws k 0) → mass ≡ weight *ℤ m → value ≡ weight *ℤ v → WeighedIs c t (slot c.d ws cs k) weight mass value
-  slot_present e X p q r = record {
-    weight_is = p ∙ sym (slot_weighed (ones c t) ∙ ap (λ (b : Bool). pos (get_or ws k 0) *ℤ cond b (pos 1) (pos 0)) e ∙ once (get_or ws k 0));
-    mass_is = q ∙ ap₂ ◌*ℤ◌ p X.mass_is ∙ sym (slot_weighed (masses c t));
-    value_is = r ∙ ap₂ ◌*ℤ◌ p X.value_is ∙ sym (slot_weighed (values c t));
-  }
-    where
-      once : (w : ℕ) → pos w *ℤ pos 1 ≡ pos w
-      once w = let e : w * 1 ≡ w = omega arith in ap pos e
+  -- one that is stored gives its weight, and its numbers times the weight: they fit, and are what is read back from their bits
+  module _ {w m v : ℤ} (X : PairIs c t kept true m v) (p : w ≡ pos (get_or ws k 0)) where
+    light_weight : Abs≤ (pos (get_or ws k 0)) most_W
+    light_weight = let l = weight_small in record { abs = omega arith }
 
-  -- one slot more is weighed: the new sums fit, and are what is read back from their bits
-  pub slot_more : {weight mass value w m v : ℤ} → WeighedIs c t (collect k (slot c.d ws cs)) weight mass value → WeighedIs c t (slot c.d ws cs k) w m v
-      → Fitting (weight +ℤ W64 w) (mass +ℤ W64 m) (value +ℤ W64 v)
-      × WeighedIs c t (collect (k + 1) (slot c.d ws cs)) (W64 (weight +ℤ W64 w)) (W64 (mass +ℤ W64 m)) (W64 (value +ℤ W64 v))
-  unfolding collect
-  slot_more X Y =
-      let Z = weighed_more c t (slot c.d ws cs) k X (light_back c t Q.readable Q.small (slot c.d ws cs k) light.1 Y) in
-      let both : heft (collect (k + 1) (slot c.d ws cs)) ≤ℤ pos most_W = rw add-one light.0 in
-      (light_fits c t Q.readable Q.small (collect (k + 1) (slot c.d ws cs)) both Z, light_back c t Q.readable Q.small (collect (k + 1) (slot c.d ws cs)) both Z)
+    weight_back : W64 w ≡ pos (get_or ws k 0)
+    weight_back = rw p (back64 light_weight (lit< tt))
+
+    -- a number of the pair
+    module _ {z : ℤ} (h : Abs≤ z most_blurred) where
+      product_is : W64 w *ℤ W64 z ≡ pos (get_or ws k 0) *ℤ z
+      product_is = ap₂ ◌*ℤ◌ weight_back (small_back h)
+
+      product_fits : SFits w64 (W64 w *ℤ W64 z)
+      product_fits = rw product_is (small_fits (abs_times (pos (get_or ws k 0)) z {B = most_W} {C = most_blurred} light_weight h (omega arith)))
+
+      product_back : W64 (W64 w *ℤ W64 z) ≡ pos (get_or ws k 0) *ℤ z
+      product_back = to_z-of_z w64 (W64 w *ℤ W64 z) product_fits ∙ product_is
+
+    pub mass_fits : SFits w64 (W64 w *ℤ W64 m)
+    mass_fits = product_fits (pair_small c t Q.readable Q.small X).0
+
+    pub value_fits : SFits w64 (W64 w *ℤ W64 v)
+    value_fits = product_fits (pair_small c t Q.readable Q.small X).1
+
+    pub slot_present : WeighedIs c t (slot c.d ws cs k) (W64 w) (W64 (W64 w *ℤ W64 m)) (W64 (W64 w *ℤ W64 v))
+    slot_present = record {
+      weight_is = weight_back ∙ sym (slot_weighed (ones c t) ∙ ap (λ (b : Bool). pos (get_or ws k 0) *ℤ cond b (pos 1) (pos 0)) (sym X.stored_is) ∙ once (get_or ws k 0));
+      mass_is = product_back (pair_small c t Q.readable Q.small X).0 ∙ ap (λ (z : ℤ). pos (get_or ws k 0) *ℤ z) X.mass_is ∙ sym (slot_weighed (masses c t));
+      value_is = product_back (pair_small c t Q.readable Q.small X).1 ∙ ap (λ (z : ℤ). pos (get_or ws k 0) *ℤ z) X.value_is ∙ sym (slot_weighed (values c t));
+    }
+      where
+        once : (w : ℕ) → pos w *ℤ pos 1 ≡ pos w
+        once w = let e : w * 1 ≡ w = omega arith in ap pos e
+
+-- ---- one slot more is weighed: the new sums fit, and are what is read back from their bits
+pub slot_more : (c : Settings) (t : Table) (ws : List ℕ) (cs : List ℤ) → Weighable c t ws cs → (k : ℕ) → k < c.d + 1
+    → {weight mass value w m v : ℤ} → WeighedIs c t (collect k (slot c.d ws cs)) weight mass value → WeighedIs c t (slot c.d ws cs k) w m v
+    → Fitting (W64 weight +ℤ W64 w) (W64 mass +ℤ W64 m) (W64 value +ℤ W64 v)
+    × WeighedIs c t (collect (k + 1) (slot c.d ws cs)) (W64 (W64 weight +ℤ W64 w)) (W64 (W64 mass +ℤ W64 m)) (W64 (W64 value +ℤ W64 v))
+unfolding collect
+slot_more c t ws cs Q k h X Y =
+    let l = light c t ws cs Q k (omega arith) in
+    let g = slot c.d ws cs in
+    let Z = weighed_more c t g k (light_back c t Q.readable Q.small (collect k g) l.0 X) (light_back c t Q.readable Q.small (g k) l.2 Y) in
+    let both : heft (collect (k + 1) g) ≤ℤ pos most_W = rw add-one l.1 in
+    (light_fits c t Q.readable Q.small (collect (k + 1) g) both Z, light_back c t Q.readable Q.small (collect (k + 1) g) both Z)

@@ -31,27 +31,13 @@ fn lent_fits(
 ) -> bool
     ensures { result ≡ lent_fits_ranged d capacity first second queries values codes }
 {
-    if MOST_D < d {
-        return false;
-    }
-    if MOST_CAPACITY < capacity {
-        return false;
-    }
-    if first != 2 * capacity {
-        return false;
-    }
-    if second != 2 * capacity {
-        return false;
-    }
-    let width = d + 1;
-    if queries % width != 0 {
-        return false;
-    }
-    let count = queries / width;
-    if values != count {
-        return false;
-    }
-    codes == count
+    let in_range = d <= MOST_D && capacity <= MOST_CAPACITY;
+    in_range
+        && first == 2 * capacity
+        && second == 2 * capacity
+        && queries % (d + 1) == 0
+        && values == queries / (d + 1)
+        && codes == queries / (d + 1)
 }
 
 // Filter: 1, 2 or 3 for the call, which then changes nothing; else each query's value and code, where

@@ -22,15 +22,6 @@ pub struct Weighed {
     pub value: i64,
 }
 
-// A weight times a number of a pair, in 64 bits.
-fn times(weight: i64, number: i64) -> i64
-    requires abs { Abs≤ weight most_W }
-    requires abs_2 { Abs≤ number most_blurred }
-    ensures { result ≡ weight *ℤ number }
-{
-    weight * number
-}
-
 // What the point of slot k adds: nothing where it has weight 0, and nothing where it is not stored.
 fn weigh_slot(
     head: Head,
@@ -48,19 +39,18 @@ fn weigh_slot(
 {
     let start = MOST_COORDS * k;
     let end = start + head.d;
-    let pair = pair_of(head, keys, index, sheet, &coords[start..end]);
-    if !pair.stored {
+    let Some(pair) = pair_of(head, keys, index, sheet, &coords[start..end]) else {
         return Weighed {
             weight: 0,
             mass: 0,
             value: 0,
         };
-    }
-    let weight = weights[k] as i64;
+    };
+    let weight = i64::from(weights[k]);
     Weighed {
         weight,
-        mass: times(weight, pair.mass),
-        value: times(weight, pair.value),
+        mass: weight * pair.mass,
+        value: weight * pair.value,
     }
 }
 
@@ -78,18 +68,16 @@ pub fn weigh(
         WeighedIs (settings head) t (collect (suc head.d) (slot head.d weights.now coords.now)) result.weight result.mass result.value }
 {
     let n = head.d + 1;
-    let mut weight = 0;
-    let mut mass = 0;
-    let mut value = 0;
+    let mut sums = Weighed {
+        weight: 0,
+        mass: 0,
+        value: 0,
+    };
     for k in 0..n {
         let more = weigh_slot(head, keys, index, sheet, weights, coords, k);
-        weight = weight + more.weight;
-        mass = mass + more.mass;
-        value = value + more.value;
+        sums.weight += more.weight;
+        sums.mass += more.mass;
+        sums.value += more.value;
     }
-    Weighed {
-        weight,
-        mass,
-        value,
-    }
+    sums
 }

@@ -3,7 +3,8 @@
 // written.
 #![tactic(auto)]
 
-ghost use Rattle.table.specs.Heads.{settings};
+ghost use Rattle.lattice.specs.Refusals.{told};
+ghost use Rattle.table.specs.Heads.{settings, head_told};
 ghost use Rattle.book.specs.Calls.{merge_refusal, after_merge};
 ghost use Rattle.book.specs.Heads.{booked_in, AnswersBookIn, booked};
 
@@ -13,10 +14,11 @@ mod source;
 
 use crate::adding::add_source;
 use crate::judging::merge_refusal;
-use table::{Answer, Head, with_counts};
+use lattice::refusals::Refusal;
+use table::{Head, with_counts};
 
-// The number 0 and the head of the target with the source in it, or the number of the first refusal
-// that is met and the head as given. Capacities may differ, and the rooms of the books.
+// The head of the target with the source in it, or the first refusal that is met. Capacities may differ,
+// and the rooms of the books.
 pub fn merge(
     head: Head,
     keys: &mut [i32],
@@ -28,14 +30,14 @@ pub fn merge(
     source_sums: &[i64],
     source_index: &[u16],
     source_book: &[i32],
-) -> Answer
+) -> Result<Head, Refusal>
     ensures { let c = settings head in
         let e = settings source in
         let b = booked_in head keys sums index book in
         let s = booked source source_keys.now source_sums.now source_index.now source_book.now in
-        AnswersBookIn head (merge_refusal c b e s) (after_merge c b e s) result.number result.head keys sums index book }
+        AnswersBookIn head (merge_refusal c b e s) (after_merge c b e s) (told result) (head_told head result) keys sums index book }
 {
-    let number = merge_refusal(
+    merge_refusal(
         head,
         keys,
         sums,
@@ -46,10 +48,7 @@ pub fn merge(
         source_sums,
         source_index,
         source_book,
-    );
-    if number != 0 {
-        return Answer { number, head };
-    }
+    )?;
     let points = add_source(
         head,
         keys,
@@ -61,8 +60,5 @@ pub fn merge(
         source_sums,
         source_book,
     );
-    Answer {
-        number: 0,
-        head: with_counts(head, head.readings + source.readings, points),
-    }
+    Ok(with_counts(head, head.readings + source.readings, points))
 }

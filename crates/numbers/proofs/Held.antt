@@ -4,18 +4,22 @@ use mathlib.Core.Bool.{Bool, true, false, not, cond}
 use mathlib.Core.List.{List}
 use Prim.Native.Nat.{ℕ, zero, suc, ◌+◌, ◌-◌, ◌≤◌, ◌<◌}
 use native.Mathlib.Numerals.{add-one}
-use native.Mathlib.Decide.{ℕ_discrete}
+use native.Mathlib.Nat.{le_refl}
+use native.Mathlib.Decide.{ℕ_discrete, dec_lt}
 use native.Mathlib.Omega.{arith}
 use lib.Dec.{T, eqb-suc-zero}
 use lib.IntN.{ℤ, pos}
 use lib.Seq.{get_or-set_same, get_or-set_other}
+use Rattle.std.specs.Option.{MatchOption, unwrap_or}
+use Rattle.std.specs.declared.option.Option.{Option}
+use Rattle.std.specs.declared.option.Option.TheVariants.{None, Some}
 use Rattle.whole.specs.Sum.{all}
 use Rattle.whole.specs.Lists.{at}
 use Rattle.whole.proofs.Tests.{T_true}
 use Rattle.index.specs.Search.{entry_at}
+use Rattle.table.proofs.Refusals.{T_of}
 use Rattle.book.specs.Book.{among, numbers_apart}
 use Rattle.book.specs.Numbers.{lowest_from}
-use Rattle.book.proofs.Testing.{among_at, at_among}
 use Rattle.numbers.specs.Indexing.{is_named, place_for, NumberIndex, Adds, IndexesBook, HeldBelow}
 use Rattle.numbers.proofs.Numbering.{is_among, is_new}
 use Rattle.numbers.proofs.Apart.{among_same}
@@ -72,6 +76,18 @@ below_on n f (suc from) l h =
     below_on n f from (omega arith) (λ k g. h k (omega arith)) ∙ next_on n f from (T_true (among n f (pos from)) (h from (omega arith))) (omega arith)
     ∙ ap (λ (k : ℕ). lowest_from (n - k) n f k) (add-one from)
 
+-- with those between,
+held_to : (from i n : ℕ) (f : ℕ → ℤ) → HeldBelow from n f → ((k : ℕ) → from ≤ k → k < i → among n f (pos k) ≡ true) → HeldBelow i n f
+held_to from i n f h g k l = elim (dec_lt k from) [ yes q ↦ h k q | no q ↦ T_of (g k (omega (arith, q)) l) ]
+
+-- so the first that is not among them, looked for from there on, is the lowest
+pub first_lowest : (n : ℕ) (f : ℕ → ℤ) (from : ℕ) (test : ℕ → Bool) → ((k : ℕ) → k < n → test k ≡ among n f (pos k)) → HeldBelow from n f → (r : Option ℕ)
+    → MatchOption r ((k : ℕ) → from ≤ k → k < n → test k ≡ true) (λ i. (from ≤ i) × (i < n) × (test i ≡ false) × ((k : ℕ) → from ≤ k → k < i → test k ≡ true))
+    → unwrap_or r n ≡ lowest_from n n f 0
+first_lowest n f from test told h None g = sym (below_on n f n (le_refl n) (held_to from n n f h (λ k a l. sym (told k l) ∙ g k a l)) ∙ all_tried n f n refl)
+first_lowest n f from test told h (Some i) g =
+    sym (below_on n f i (omega (arith, g.1)) (held_to from i n f h (λ k a l. sym (told k (omega (arith, g.1))) ∙ g.3 k a l)) ∙ new_stops (n - i) n f i (sym (told i g.1) ∙ g.2))
+
 -- ---- for a caller that goes on from the last answer: it is at most n, and all below it are held,
 pub lowest_most : (tries n : ℕ) (f : ℕ → ℤ) (k : ℕ) → lowest_from tries n f k ≤ k + tries
 unfolding lowest_from
@@ -94,13 +110,9 @@ below_from (suc tries) n f k h = go (among n f (pos k)) refl (below_from tries n
 pub lowest_below : (n : ℕ) (f : ℕ → ℤ) → HeldBelow (lowest_from n n f 0) n f
 lowest_below n f = below_from n n f 0 (λ k l. absurd (omega (arith, l)))
 
--- they are of the same numbers told otherwise,
+-- they are of the same numbers told otherwise
 pub below_same : (from n : ℕ) (f g : ℕ → ℤ) → ((j : ℕ) → j < n → f j ≡ g j) → HeldBelow from n f → HeldBelow from n g
 below_same from n f g e h k l = subst T (among_same n f g (pos k) e) (h k l)
-
--- and with one number more
-pub below_more : (from n : ℕ) (f g : ℕ → ℤ) → ((j : ℕ) → j < n → f j ≡ g j) → HeldBelow from n f → HeldBelow from (n + 1) g
-below_more from n f g e h k l = let (i, m, q) = among_at n f (pos k) (h k l) in at_among (n + 1) g (pos k) i (omega (arith, m)) (sym (e i m) ∙ q)
 
 -- ---- one number more in the list: the others stay, and it is the last
 module _ (n : ℕ) (numbers : List ℤ) (places : List ℕ) (X : NumberIndex n numbers places) {k : ℤ} {numbers' : List ℤ} {places' : List ℕ}
@@ -110,9 +122,6 @@ module _ (n : ℕ) (numbers : List ℤ) (places : List ℕ) (X : NumberIndex n n
 
   pub added_last : at numbers' n ≡ k
   added_last = ap (λ (s : List ℤ). at s n) A.numbers_are ∙ get_or-set_same numbers n k (pos 0) (omega (arith, X.numbers_size, X.few))
-
-  pub added_below : (from : ℕ) → HeldBelow from n (at numbers) → HeldBelow from (n + 1) (at numbers')
-  added_below from h = below_more from n (at numbers) (at numbers') (λ j l. sym (added_others j l)) h
 
   -- so they are a book's with one entry more
   pub added_copied : (f g : ℕ → ℤ) → ((j : ℕ) → j < n → at numbers j ≡ f j) → ((j : ℕ) → j < n → f j ≡ g j) → k ≡ g n → (j : ℕ) → j < n + 1 → at numbers' j ≡ g j

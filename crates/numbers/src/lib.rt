@@ -58,10 +58,8 @@ pub fn index_book(numbers: &mut [i32], places: &mut [u16], book: &[i32], d: usiz
     requires d_le_most_d { (d ≤ most_d) × (n ≤ most_readings) × ((d + 3) * n ≤ length book.now) }
     ensures { IndexesBook n (number_at d book.now) numbers.old result numbers.new places.new }
 {
-    let width = d + 3;
-    for j in 0..n {
-        let number = book[width * j];
-        if !add_number(numbers, places, j, number) {
+    for (j, number) in book.iter().step_by(d + 3).take(n).enumerate() {
+        if !add_number(numbers, places, j, *number) {
             return false;
         }
     }
@@ -85,14 +83,11 @@ fn none_held(numbers: &[i32], places: &[u16], source: &[i32], d: usize, count: u
     requires d_le_most_d { (d ≤ most_d) × (count ≤ most_readings) × ((d + 3) * count ≤ length source.now) }
     ensures { result ≡ all count (λ j. not (is_named numbers.now places.now (number_at d source.now j))) }
 {
-    let width = d + 3;
-    for j in 0..count {
-        let number = source[width * j];
-        if is_held(numbers, places, number) {
-            return false;
-        }
-    }
-    true
+    source
+        .iter()
+        .step_by(d + 3)
+        .take(count)
+        .all(|number| !is_held(numbers, places, *number))
 }
 
 // Whether none of the numbers of so many entries of a source is held in a target of n entries. The
@@ -117,10 +112,7 @@ pub fn lowest_from(numbers: &[i32], places: &[u16], n: usize, from: usize) -> us
     requires from_le_n { (from ≤ n) × HeldBelow from n (at numbers.now) }
     ensures { result ≡ lowest_from n n (at numbers.now) 0 }
 {
-    for k in from..n {
-        if !is_held(numbers, places, k as i32) {
-            return k;
-        }
-    }
-    n
+    (from..n)
+        .find(|k| !is_held(numbers, places, *k as i32))
+        .unwrap_or(n)
 }

@@ -1,4 +1,3 @@
-pub mod Appending
 pub mod Seeking
 pub mod Raising
 pub mod Addition

@@ -63,7 +63,7 @@ fn put_replies(
 {
     let mut next = at;
     let mut offset = AFTER_SETTINGS;
-    // A loop over offsets: an item is answered by the offset that it stands at.
+    // A loop: an item is answered by the offset that it stands at, and the items alone do not say it.
     loop {
         let found = read_at(log, offset);
         // no byte is taken: the items end here

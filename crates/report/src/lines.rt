@@ -15,6 +15,7 @@ pub fn put_head(out: &mut [u8], head: Head) -> usize
     requires { HeadRoom head (length out.old) }
     ensures { Written out.old 0 (counts_line head) result out.new }
 {
+    // Counts are cast: usize has no From into i64.
     let numbers = [
         head.d as i64,
         i64::from(head.fineness),
@@ -73,5 +74,6 @@ pub fn put_refused(out: &mut [u8], number: u8, offset: usize) -> usize
     requires { RefusedRoom number offset (length out.old) }
     ensures { Written out.old 0 (refused_line number offset) result out.new }
 {
+    // The offset is cast, as the counts of a head are.
     put_line(out, 0, b"REFUSED", &[i64::from(number), offset as i64])
 }

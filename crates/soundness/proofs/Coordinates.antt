@@ -18,12 +18,8 @@ use Rattle.lattice.specs.Limits.{farthest_point}
 use Rattle.table.specs.Table.{whole}
 use Rattle.table.specs.Sound.{good_key}
 use Rattle.table.proofs.Good.{kept_at}
+use Rattle.table.proofs.Passes.{all_cong}
 use Rattle.soundness.specs.Inner.{good_coordinate}
-
-all_cong : (n : ℕ) (f g : ℕ → Bool) → ((i : ℕ) → i < n → f i ≡ g i) → all n f ≡ all n g
-all_cong n f g h = T_ext (all n f) (all n g)
-    (λ t. all_of n g (λ i l. subst T (h i l) (all_at n f t i l)))
-    (λ t. all_of n f (λ i l. subst T (sym (h i l)) (all_at n g t i l)))
 
 all_both : (n : ℕ) (f g : ℕ → Bool) → (all n f && all n g) ≡ all n (λ i. g i && f i)
 all_both n f g = T_ext (all n f && all n g) (all n (λ i. g i && f i))

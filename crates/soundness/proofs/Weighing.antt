@@ -2,58 +2,46 @@
 use mathlib.Core.Path.{◌≡◌, refl, ap, sym, subst, ◌∙◌}
 use mathlib.Core.Bool.{Bool, true, false, ◌&&◌}
 use mathlib.Core.List.{List}
-use Prim.Native.Nat.{ℕ, ◌+◌, ◌*◌, ◌≤◌, ◌<◌, ◌^◌}
+use Prim.Native.Nat.{ℕ, ◌+◌, ◌*◌, ◌≤◌, ◌<◌}
 use native.Mathlib.Nat.{mul-le-mul_left}
 use native.Mathlib.Omega.{arith}
 use lib.Dec.{T, eqb, eqb→eq}
-use lib.IntN.{ℤ, pos, neg_ℤ, ◌*ℤ◌}
+use lib.IntN.{ℤ, pos, ◌*ℤ◌}
 use lib.ListN.{length}
-use lib.Signed.{le_z, ◌≤ℤ◌, ◌<ℤ◌}
+use lib.Signed.{le_z, ◌≤ℤ◌}
 use mir.Syntax.{w64}
-use mir.Val.{to_z, of_z, hbits}
-use mir.ValLaws.{to_z_pos}
+use mir.Val.{to_z, of_z, SFits}
+use mir.Facts.{to_z-of_z}
 use Rattle.whole.specs.Size.{Within}
 use Rattle.whole.specs.Sum.{sum, all}
 use Rattle.whole.specs.Lists.{at}
-use Rattle.whole.proofs.Parts.{zin}
 use Rattle.whole.proofs.Tests.{and_l, and_r, and_i, all_at, all_of, T_true, T_false, T_ext}
 use Rattle.lattice.specs.Limits.{most_value}
 use Rattle.index.specs.Keys.{eq_z, key_at}
 use Rattle.index.proofs.Equality.{eq-eqb, eq_z_eq, eq_z_refl, key_at_length}
 use Rattle.table.specs.Sound.{good, good_key, good_pair, within_plus_minus}
+use Rattle.table.proofs.Passes.{and_true}
+use Rattle.table.proofs.Refusals.{T_of}
 use Rattle.table.proofs.Soundness.{sum_one}
 use Rattle.soundness.specs.Inner.{light_pair, Rows, row_at, light_row, good_rows}
 
 -- ---- one pair
-le_true : {a b : ℤ} → a ≤ℤ b → le_z a b ≡ true
-le_true {a} {b} h = T_true (le_z a b) h.le
-
-le_false : {a b : ℤ} → b <ℤ a → le_z a b ≡ false
-le_false {a} {b} h = T_false (le_z a b) (λ t. let k : a ≤ℤ b = record { le = t } in let z : ⊥ = omega (arith, zin) in z)
-
-module _ (total : ℕ) (m v : ℤ) where
-  abbrev far : ℤ
-  far = pos most_value *ℤ m
-
-  pub pair_none : m <ℤ pos 1 → false ≡ light_pair total m v
+module _ (total : ℕ) (m v : ℤ) {r : Bool} (r-is : r ≡ (le_z (pos 1) m && le_z m (pos total))) where
+  pub pair_out : r ≡ false → false ≡ light_pair total m v
   unfolding light_pair good_pair
-  pair_none h = sym (rw (le_false h) refl)
+  pair_out f =
+      let some = le_z (pos 1) m in
+      let w = within_plus_minus (pos most_value *ℤ m) v in
+      let light = le_z m (pos total) in
+      sym (T_false (light_pair total m v) (λ t. subst T (sym r-is ∙ f) (and_i some light (and_l some w (and_l (some && w) light t)) (and_r (some && w) light t))))
 
-  pub pair_heavy : pos total <ℤ m → false ≡ light_pair total m v
-  unfolding light_pair
-  pair_heavy h = sym (T_false (light_pair total m v) (λ t. subst T (le_false h) (and_r (good_pair m v) (le_z m (pos total)) t)))
-
-  pub pair_low : pos 1 ≤ℤ m → v <ℤ neg_ℤ far → false ≡ light_pair total m v
+  pub pair_in : {s : Bool} → r ≡ true → s ≡ within_plus_minus (pos most_value *ℤ m) v → s ≡ light_pair total m v
   unfolding light_pair good_pair
-  pair_low h k = sym (rw (le_true h, le_false k) refl)
-
-  pub pair_rest : {r : Bool} → pos 1 ≤ℤ m → m ≤ℤ pos total → neg_ℤ far ≤ℤ v → r ≡ le_z v far → r ≡ light_pair total m v
-  unfolding light_pair good_pair
-  pair_rest h k l e = e ∙ sym (rw (le_true h, le_true k, le_true l) (last (le_z v far)))
-    where
-      last : (b : Bool) → (b && true) ≡ b
-      last true = refl
-      last false = refl
+  pair_in f g =
+      let some = le_z (pos 1) m in
+      let light = le_z m (pos total) in
+      let t = T_of (sym r-is ∙ f) in
+      g ∙ and_true (within_plus_minus (pos most_value *ℤ m) v) ∙ sym (rw (T_true some (and_l some light t), T_true light (and_r some light t)) refl)
 
 -- ---- one key, lent as a part of the keys
 pub key_of : {r : Bool} {k : List ℤ} (d : ℕ) (keys : List ℤ) (i : ℕ) → k ≡ key_at d keys i → r ≡ good_key (length k) k → r ≡ good_key d (key_at d keys i)
@@ -141,7 +129,7 @@ module _ (total d : ℕ) (keys sums : List ℤ) where
       rw (← q, e, g) refl
 
 -- the comparison of two sums by their bits
-pub bits_same : {b : ℕ} {z : ℤ} (total : ℕ) → total < 2 ^ hbits w64 → b ≡ of_z w64 z → to_z w64 b ≡ z → eqb b total ≡ eq_z z (pos total)
-bits_same {b} {z} total l e f = T_ext (eqb b total) (eq_z z (pos total))
-    (λ t. subst (λ (y : ℤ). T (eq_z z y)) (sym f ∙ ap (to_z w64) (eqb→eq b total t) ∙ to_z_pos w64 total l) (eq_z_refl z))
-    (λ t. eq-eqb b total (e ∙ ap (of_z w64) (eq_z_eq z (pos total) t)))
+pub bits_same : {b : ℕ} {y z : ℤ} (total : ℕ) → SFits w64 (pos total) → y ≡ pos total → b ≡ of_z w64 z → to_z w64 b ≡ z → eqb b (of_z w64 y) ≡ eq_z z (pos total)
+bits_same {b} {y} {z} total f o e g = rw o (T_ext (eqb b (of_z w64 (pos total))) (eq_z z (pos total))
+    (λ t. subst (λ (x : ℤ). T (eq_z z x)) (sym g ∙ ap (to_z w64) (eqb→eq b (of_z w64 (pos total)) t) ∙ to_z-of_z f) (eq_z_refl z))
+    (λ t. eq-eqb b (of_z w64 (pos total)) (e ∙ ap (of_z w64) (eq_z_eq z (pos total) t))))

@@ -1,5 +1,5 @@
 -- What the functions behind `is_sound` compute and ask of one another. No contract that another crate sees cites this file.
-use Rattle.std.specs.Prelude.{Bool, not, cond, ◌&&◌, List, ℕ, suc, ◌+◌, ◌*◌, ◌≤◌, eqb, leb, ℤ, pos, nat_abs, length}
+use Rattle.std.specs.Prelude.{Bool, ◌&&◌, List, ℕ, suc, ◌+◌, ◌*◌, ◌≤◌, eqb, leb, ℤ, pos, nat_abs, length}
 use Rattle.std.specs.Int.Signed.{le_z}
 use Rattle.whole.specs.Floor.{remainder}
 use Rattle.whole.specs.Sum.{sum, all}
@@ -9,10 +9,6 @@ use Rattle.index.specs.Keys.{eq_z, key_at}
 use Rattle.index.specs.Search.{entry_at, search, Searchable}
 use Rattle.table.specs.Table.{Row}
 use Rattle.table.specs.Sound.{good, good_key, good_pair}
-
--- 1 for an index entry that names a point
-abbrev pub tally : ℕ → ℕ
-tally e = cond (not (eqb e 0)) 1 0
 
 -- Lent keys of m points, or of more, and an index in which keys can be sought.
 pub record Findable (d C m : ℕ) (keys : List ℤ) (index : List ℕ) : Type 0 where

@@ -4,32 +4,14 @@ ghost use Rattle.std.specs.Prelude.{◌≡◌, suc, length};
 ghost use Rattle.index.specs.Keys.{key_at};
 ghost use Rattle.index.specs.Search.{entry_at};
 ghost use Rattle.index.specs.Indexed.{sparse, finding};
-ghost use Rattle.soundness.specs.Inner.{tally, is_found, Findable};
-
-// 1 for an entry that names a point.
-fn tally_of(entry: u16) -> usize
-    ensures { result ≡ tally entry }
-{
-    if entry == 0 {
-        return 0;
-    }
-    1
-}
+ghost use Rattle.soundness.specs.Inner.{is_found, Findable};
 
 // Every entry is 0 to the number of points, and exactly that many are not 0.
 pub fn index_is_sparse(index: &[u16], points: usize) -> bool
     ensures { result ≡ sparse (length index.now) points (entry_at index.now) }
 {
-    let places = index.len();
-    let mut named = 0;
-    for p in 0..places {
-        let e = index[p];
-        if points < (e as usize) {
-            return false;
-        }
-        named = named + tally_of(e);
-    }
-    named == points
+    index.iter().all(|e| usize::from(*e) <= points)
+        && index.iter().filter(|e| **e != 0).count() == points
 }
 
 // Whether the search for the key of point i ends at a place that names point i. It is compared in 16
@@ -51,10 +33,5 @@ pub fn finds_all(keys: &[i32], index: &[u16], d: usize, capacity: usize, points:
     requires { Findable d capacity points keys.now index.now }
     ensures { result ≡ finding capacity points (key_at d keys.now) (entry_at index.now) }
 {
-    for i in 0..points {
-        if !finds(keys, index, d, capacity, i) {
-            return false;
-        }
-    }
-    true
+    (0..points).all(|i| finds(keys, index, d, capacity, i))
 }

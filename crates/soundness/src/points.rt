@@ -12,10 +12,7 @@ fn good_coordinate(c: i32, n: u32, remainder: u32) -> bool
     requires { Divisor n }
     ensures { result ≡ good_coordinate n remainder c }
 {
-    if FARTHEST_POINT < whole::words::size_of(c) {
-        return false;
-    }
-    whole::division::remainder_of(c, n) == remainder
+    c.unsigned_abs() <= FARTHEST_POINT && whole::division::remainder_of(c, n) == remainder
 }
 
 // Each coordinate is tested before it is added, so the sum stays small.
@@ -23,18 +20,14 @@ pub fn good_key(key: &[i32]) -> bool
     requires { (1 ≤ length key.now) × (length key.now ≤ most_d) }
     ensures { result ≡ good_key (length key.now) key.now }
 {
-    let d = key.len();
-    let n = (d as u32) + 1;
-    let first = key[0];
-    let remainder = whole::division::remainder_of(first, n);
+    let n = (key.len() as u32) + 1;
+    let remainder = whole::division::remainder_of(key[0], n);
     let mut total: i32 = 0;
-    for j in 0..d {
-        let c = key[j];
+    for &c in key {
         if !good_coordinate(c, n, remainder) {
             return false;
         }
-        total = total + c;
+        total += c;
     }
-    let last = -total;
-    good_coordinate(last, n, remainder)
+    good_coordinate(-total, n, remainder)
 }

@@ -20,17 +20,11 @@ pub fn total_of(d: usize, fineness: u32, readings: usize) -> u32
 fn good_pair(mass: i64, value: i64, total: u32) -> bool
     ensures { result ≡ light_pair total mass value }
 {
-    if mass < 1 {
+    if !(1..=i64::from(total)).contains(&mass) {
         return false;
     }
-    if (total as i64) < mass {
-        return false;
-    }
-    let far = (MOST_VALUE as i64) * mass;
-    if value < -far {
-        return false;
-    }
-    value <= far
+    let far = i64::from(MOST_VALUE) * mass;
+    (-far..=far).contains(&value)
 }
 
 // The key and the pair of point i.
@@ -40,26 +34,21 @@ fn good_row(keys: &[i32], sums: &[i64], d: usize, total: u32, i: usize) -> bool
 {
     let a = d * i;
     let b = a + d;
-    if !good_key(&keys[a..b]) {
-        return false;
-    }
-    let mass = sums[2 * i];
-    let value = sums[2 * i + 1];
-    good_pair(mass, value, total)
+    good_key(&keys[a..b]) && good_pair(sums[2 * i], sums[2 * i + 1], total)
 }
 
-// All of them, and that their masses come to `total`. Each mass is at most that, so their sum fits.
+// All of them, and that their masses come to `total`. Each mass is at most that, so their sum fits. A
+// loop by number: a point's key and its pair stand in two slices, in parts of two widths.
 pub fn rows_are_good(keys: &[i32], sums: &[i64], d: usize, points: usize, total: u32) -> bool
     requires { Rows d points keys.now sums.now }
     ensures { result ≡ good_rows total d points keys.now sums.now }
 {
-    let mut masses: i64 = 0;
+    let mut masses = 0i64;
     for i in 0..points {
         if !good_row(keys, sums, d, total, i) {
             return false;
         }
-        let mass = sums[2 * i];
-        masses = masses + mass;
+        masses += sums[2 * i];
     }
-    masses == (total as i64)
+    masses == i64::from(total)
 }

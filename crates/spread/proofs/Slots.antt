@@ -1,5 +1,5 @@
 -- The slots of a simplex on a sheet, one after the other.
-use mathlib.Core.Path.{◌≡◌, ap₂}
+use mathlib.Core.Path.{◌≡◌}
 use mathlib.Core.List.{List}
 use Prim.Native.Nat.{ℕ, suc, ◌+◌, ◌*◌, ◌-◌, ◌≤◌, ◌<◌}
 use native.Mathlib.Omega.{arith}
@@ -14,7 +14,7 @@ use Rattle.spread.specs.Spreading.{Lifts}
 use Rattle.spread.specs.Inner.{RowToLift, SlotsToLift}
 use Rattle.spread.proofs.Few.{slot_few, missing_few}
 use Rattle.spread.proofs.Light.{light_row_lem, slot_light}
-use Rattle.spread.proofs.Sheets.{lifts_more, lifts_as, after_collected}
+use Rattle.spread.proofs.Sheets.{lifts_more, after_collected}
 
 -- the row of a slot, as the machine has its numbers
 pub slot_row : {d C : ℕ} {keys : List ℤ} {index : List ℕ} {sheet : List ℤ} {v : ℤ} (ws : List ℕ) (cs : List ℤ) (k : ℕ) (mass value : ℤ)
@@ -50,8 +50,3 @@ slots_missing c keys index ws cs v k L = omega (arith, missing_few c keys index 
 pub slots_more : (c : Settings) (keys : List ℤ) (index : List ℕ) (ws : List ℕ) (cs : List ℤ) (v : ℤ) (k : ℕ) {sheet mid left : List ℤ} {x y : ℕ}
     → Lifts c keys index sheet (rows_to c.d ws cs v k) x mid → Lifts c keys index mid (slot_rows c.d ws cs v k) y left → Lifts c keys index sheet (rows_to c.d ws cs v (k + 1)) (x + y) left
 slots_more c keys index ws cs v k P Q = lifts_more c keys index (rows_to c.d ws cs v k) (slot_rows c.d ws cs v k) (rows_to c.d ws cs v (k + 1)) P Q (rows_more c.d ws cs v k)
-
--- all slots are lifted, and the value is named otherwise
-pub slots_done : (c : Settings) (keys : List ℤ) (index : List ℕ) (ws : List ℕ) (cs : List ℤ) (v v' : ℤ) (k n : ℕ) {sheet left : List ℤ} {x : ℕ} → v' ≡ v → k ≡ n
-    → Lifts c keys index sheet (rows_to c.d ws cs v' k) x left → Lifts c keys index sheet (rows_to c.d ws cs v n) x left
-slots_done c keys index ws cs v v' k n {sheet} {left} {x} p q L = lifts_as c keys index _ _ L (ap₂ (rows_to c.d ws cs) p q)

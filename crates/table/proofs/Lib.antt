@@ -1,5 +1,6 @@
 pub mod Worked
 pub mod Lists
+pub mod Passes
 pub mod Rows
 pub mod Store
 pub mod Good

@@ -4,7 +4,8 @@
 ghost use Rattle.std.specs.Prelude.{◌≡◌, ◌∷◌, ◌+◌, ◌≤◌, length};
 ghost use Rattle.text.specs.Text.{digits, decimal, spaced, line, space, Written};
 
-// Bytes copied into the buffer from a place on; the place after them.
+// Bytes copied into the buffer from a place on; the place after them. A place goes in and comes out of
+// each function, as `put_line` promises it.
 fn put(out: &mut [u8], at: usize, bytes: &[u8]) -> usize
     requires { at + length bytes.now ≤ length out.old }
     ensures { Written out.old at bytes.now result out.new }

@@ -1,22 +1,18 @@
--- Floor and remainder: that they are the one pair with z = m·q + r and 0 ≤ r < m, that they are the library's Euclidean pair, and their
--- orders. Assumes nothing.
-use mathlib.Core.Path.{◌≡◌, refl, sym, ◌∙◌, ap, ap₂}
+-- Floor and remainder: that they are the one pair with z = m·q + r and 0 ≤ r < m, their orders, and how the machine's quotient and remainder,
+-- which go towards zero, give them. Assumes nothing.
+use mathlib.Core.Path.{◌≡◌, refl, sym, ◌∙◌, ap}
 use mathlib.Core.Logic.{⊎_elim}
-use Prim.Native.Nat.{ℕ, suc, ◌-◌, ◌%◌, ◌<◌, ◌≤◌}
-use native.Mathlib.Nat.{mul-le-mul_left, mod-lt, div-add-mod', div-le_self}
+use Prim.Native.Nat.{ℕ, suc, ◌-◌, ◌/◌, ◌%◌, ◌<◌, ◌≤◌}
+use native.Mathlib.Nat.{mul-le-mul_left, mod-lt, div-add-mod', div-le_self, div-lt_self}
 use native.Mathlib.Omega.{arith}
-use lib.IntN.{ℤ, pos, negsuc, nat_abs, ◌+ℤ◌, ◌*ℤ◌}
-use lib.Signed.{◌≤ℤ◌, ◌<ℤ◌, quot_z, mag}
-use mir.Syntax.{w32}
-use mir.Val.{SFits, to_z}
-use mir.ValLaws.{to_z-of_z, to_z_pos}
-use Rattle.std.specs.Int.{int_div_euclid, int_rem_euclid}
+use lib.IntN.{ℤ, pos, negsuc, nat_abs, ◌+ℤ◌, ◌-ℤ◌, ◌*ℤ◌}
+use lib.Signed.{◌≤ℤ◌, ◌<ℤ◌, quot_z, rem_z}
 use Rattle.whole.specs.Size.{P, N, Abs≤}
 use Rattle.whole.specs.Floor.{floor, remainder, DividedBy, DividedOnce, RemainderCases}
-use Rattle.whole.proofs.Parts.{lt_in, zin, zout}
+use Rattle.whole.proofs.Parts.{N_neg, le_in, lt_in, zin, zout}
 use Rattle.whole.proofs.Linear.{on, difs, ints}
-use Rattle.whole.proofs.Signed.{W32, zed, zlt, zeq, ole, oeq, quot_parts}
-use Rattle.whole.proofs.Ring.{le_or_lt}
+use Rattle.whole.proofs.Signed.{zed, zlt, zeq, ole, oeq, sizes}
+use Rattle.whole.proofs.Ring.{le_or_lt, nonneg_N, negative_P}
 
 -- document 01's own numbers, computed
 pub remainder_cases : RemainderCases
@@ -62,27 +58,48 @@ div_unique z q m r h e = (same, rest same)
     rest : q ≡ floor z m → r ≡ remainder z m
     rest g = omega (arith, oeq (ap (λ (x : ℤ). pos m *ℤ x +ℤ pos r) (sym g) ∙ both) (search zed depth 14) (omega arith))
 
--- ════ the library's Euclidean quotient and remainder, by a divisor that is not negative
-pub euclid_floor : (x : ℤ) (m : ℕ) → int_div_euclid x (pos m) ≡ floor x m
-unfolding floor
-euclid_floor (pos a) m = refl
-euclid_floor (negsuc a) m = refl
+-- ════ the machine's quotient and remainder by a positive divisor, and from them to the floor
+quot_rem : (x : ℤ) (m : ℕ) → x ≡ pos m *ℤ quot_z x (pos m) +ℤ rem_z x (pos m)
+quot_rem (pos a) m = zeq (search zed depth 14) (omega (arith, div-add-mod' a m))
+quot_rem (negsuc a) m = zeq (search zed depth 14) (omega (arith, div-add-mod' (suc a) m))
 
-pub euclid_remainder : (x : ℤ) (m : ℕ) → int_rem_euclid x (pos m) ≡ pos (remainder x m)
-unfolding remainder
-euclid_remainder (pos a) m = refl
-euclid_remainder (negsuc a) m = let e : m - 1 - a % m ≡ m - suc (a % m) = omega arith in ap pos e
+pub floor_pos : (x d : ℤ) → pos 1 ≤ℤ d → pos 0 ≤ℤ rem_z x d → (quot_z x d ≡ floor x (nat_abs d)) × (rem_z x d ≡ pos (remainder x (nat_abs d)))
+floor_pos x (negsuc m) h k = absurd h.le
+floor_pos x (pos m) h k = (u.0, sym r ∙ ap pos u.1)
+  where
+    r : pos (P (rem_z x (pos m))) ≡ rem_z x (pos m)
+    r = omega (arith, zout, nonneg_N k)
 
--- the pair as the machine has it
-pub floor_back : {x q : ℤ} {m : ℕ} → q ≡ int_div_euclid (W32 x) (to_z w32 m) → SFits w32 x → mag q < 2147483648 → m ≤ 2147483647 → W32 q ≡ floor x m
-floor_back {x} {q} {m} e f g h = to_z-of_z w32 q (record { sfits = g }) ∙ e ∙ ap₂ int_div_euclid (to_z-of_z w32 x f) (to_z_pos w32 m (omega arith)) ∙ euclid_floor x m
+    u : (quot_z x (pos m) ≡ floor x m) × (P (rem_z x (pos m)) ≡ remainder x m)
+    u = div_unique x (quot_z x (pos m)) m (P (rem_z x (pos m))) (omega (arith, (sizes x (pos m) h).rem_lt)) (quot_rem x m ∙ ap (λ (y : ℤ). pos m *ℤ quot_z x (pos m) +ℤ y) (sym r))
 
-pub remainder_back : {x r : ℤ} {m : ℕ} → r ≡ int_rem_euclid (W32 x) (to_z w32 m) → SFits w32 x → mag r < 2147483648 → m ≤ 2147483647 → nat_abs (W32 r) ≡ remainder x m
-remainder_back {x} {r} {m} e f g h = ap nat_abs (to_z-of_z w32 r (record { sfits = g }) ∙ e ∙ ap₂ int_rem_euclid (to_z-of_z w32 x f) (to_z_pos w32 m (omega arith)) ∙ euclid_remainder x m)
+pub record FloorNeg (x d : ℤ) : Type 0 where
+  pub quot_is : quot_z x d -ℤ pos 1 ≡ floor x (nat_abs d)
+  pub rem_is : rem_z x d +ℤ d ≡ pos (remainder x (nat_abs d))
+  pub less : N (quot_z x d) < N x
+
+quot_less : (x : ℤ) (m : ℕ) → 0 < m → rem_z x (pos m) <ℤ pos 0 → N (quot_z x (pos m)) < N x
+quot_less (pos a) m h k = let z : ⊥ = omega (arith, zin) in absurd z
+quot_less (negsuc a) m h k = let t = lt_in (rem_z (negsuc a) (pos m)) (pos 0) k in
+    omega (arith, N_neg (pos (suc a / m)), div-lt_self {n = suc a} {k = m} (omega arith) (omega (arith, mod-lt (suc a) h, N_neg (pos (suc a % m)))))
+
+pub floor_neg : (x d : ℤ) → pos 1 ≤ℤ d → rem_z x d <ℤ pos 0 → FloorNeg x d
+floor_neg x (negsuc m) h k = absurd h.le
+floor_neg x (pos m) h k = record { quot_is = u.0; rem_is = r ∙ ap pos u.1; less = quot_less x m m⁺ k }
+  where
+    m⁺ : 0 < m
+    m⁺ = omega (arith, le_in (pos 1) (pos m) h)
+
+    r : rem_z x (pos m) +ℤ pos m ≡ pos (m - N (rem_z x (pos m)))
+    r = zeq (search zed depth 14) (omega (arith, (sizes x (pos m) h).rem_lt, negative_P k))
+
+    u : (quot_z x (pos m) -ℤ pos 1 ≡ floor x m) × (m - N (rem_z x (pos m)) ≡ remainder x m)
+    u = div_unique x (quot_z x (pos m) -ℤ pos 1) m (m - N (rem_z x (pos m))) (omega (arith, zin, lt_in (rem_z x (pos m)) (pos 0) k))
+        (quot_rem x m ∙ zeq (search zed depth 14) (omega (arith, (sizes x (pos m) h).rem_lt, negative_P k)))
 
 -- a quotient is no larger than what is divided
 pub quot_abs : {a d : ℤ} {B : ℕ} → Abs≤ a B → pos 1 ≤ℤ d → Abs≤ (quot_z a d) B
-quot_abs {a} {d} h k = let q = quot_parts a d (omega (arith, zin)) in record { abs = omega (arith, q.0, q.1) }
+quot_abs {a} {d} h k = let s = sizes a d k in record { abs = omega arith }
 
 -- ════ the floor's size and order
 pub floor_p : (x : ℤ) (m : ℕ) → P (floor x m) ≤ P x

@@ -1,15 +1,15 @@
 -- The laws of the ring ℤ and of its order. Assumes nothing.
-use mathlib.Core.Path.{◌≡◌}
+use mathlib.Core.Path.{◌≡◌, refl}
 use mathlib.Core.Logic.{◌⊎◌, inl, inr}
 use Prim.Native.Nat.{◌<◌, ℕ, ◌+◌, ◌*◌, ◌≤◌}
 use native.Mathlib.Nat.{le_of_mul-le-mul_left, mul-le-mul_right}
 use native.Mathlib.Decide.{dec_le}
 use native.Mathlib.Omega.{arith}
-use lib.IntN.{ℤ, pos, neg_ℤ, ◌+ℤ◌, ◌-ℤ◌, ◌*ℤ◌}
+use lib.IntN.{ℤ, pos, negsuc, neg_ℤ, ◌+ℤ◌, ◌-ℤ◌, ◌*ℤ◌}
 use lib.Signed.{◌≤ℤ◌, ◌<ℤ◌, le_z, le_z_yes}
 use lib.Dec.{T}
 use Rattle.whole.specs.Size.{P, N}
-use Rattle.whole.proofs.Parts.{le_in, le_out, lt_out, zin, zout}
+use Rattle.whole.proofs.Parts.{le_in, lt_in, le_out, lt_out, zin, zout}
 use Rattle.whole.proofs.Linear.{on, difs, ints, dif_le}
 use Rattle.whole.proofs.Signed.{zed, zle, zeq}
 
@@ -60,6 +60,14 @@ neg_mono {a} {b} h = zle (search zed depth 14) (omega (arith, zin))
 -- times a natural number
 pub mul_mono : {a b : ℤ} (k : ℕ) → a ≤ℤ b → (pos k *ℤ a) ≤ℤ (pos k *ℤ b)
 mul_mono {a} {b} k h = zle (search zed depth 14) (omega (arith, mul-le-mul_right k (le_in a b h)))
+
+pub nonneg_N : {z : ℤ} → pos 0 ≤ℤ z → N z ≡ 0
+nonneg_N {z = pos n} h = refl
+nonneg_N {z = negsuc n} h = absurd h.le
+
+pub negative_P : {z : ℤ} → z <ℤ pos 0 → P z ≡ 0
+negative_P {z = pos n} h = let l = lt_in (pos n) (pos 0) h in omega arith
+negative_P {z = negsuc n} h = refl
 
 -- a multiple by a positive number has the sign of the number
 pub le_zero_of_times : (n : ℕ) (a : ℤ) → 0 < n → (pos n *ℤ a) ≤ℤ pos 0 → a ≤ℤ pos 0

@@ -10,8 +10,8 @@
 -- The rulesets: zlin takes a product as an atom, and one with a literal as linear; zed multiplies out; zlow also reads a number that was
 -- cast from unsigned. Assumes nothing.
 use mathlib.Core.Path.{◌≡◌, refl, sym, ◌∙◌, ap, ap₂}
-use Prim.Native.Nat.{ℕ, zero, suc, ◌+◌, ◌*◌, ◌-◌, ◌/◌, ◌<◌, ◌≤◌, ◌^◌}
-use native.Mathlib.Nat.{div-le_self}
+use Prim.Native.Nat.{ℕ, zero, suc, ◌+◌, ◌*◌, ◌-◌, ◌/◌, ◌%◌, ◌<◌, ◌≤◌, ◌^◌}
+use native.Mathlib.Nat.{div-le_self, mod-lt}
 use native.Mathlib.Omega.{arith}
 use mathlib.Core.Bool.{true, false}
 use lib.Dec.{T}
@@ -21,7 +21,7 @@ use mir.Syntax.{Width, w32, w64}
 use mir.Val.{SFits, Fits, to_z, of_z, bits, hbits}
 use mir.ValLaws.{to_z-of_z, to_z_pos}
 use Rattle.whole.specs.Size.{P, N, Within}
-use Rattle.whole.proofs.Parts.{sub_is, add_is, neg_is, mul_is, nat_abs_is, apart, le_in, le_out, lt_in, lt_out, eq_in, eq_out, sfits_make, lt_yes, lt_no, le_yes, le_no}
+use Rattle.whole.proofs.Parts.{sub_is, add_is, neg_is, mul_is, nat_abs_is, apart, le_in, le_out, lt_in, lt_out, eq_in, eq_out, sfits_make, lt_yes, lt_no, le_yes, le_no, zin}
 
 -- ════ a reading of a number z: v is z without its passes through bits, and p − n is v. `asks` is what must hold for that: each number that went through bits fits
 pub data Asks : Type 0 where
@@ -336,8 +336,8 @@ t> {a} {b} h t k = lt_out t.f.v t.e.v (omega (arith, eq_in a t.e.v (t.e.same k.0
 pub bits_eq : {w : Width} {a b : ℤ} → SFits w a → SFits w b → of_z w a ≡ of_z w b → a ≡ b
 bits_eq {w} {a} {b} h k e = sym (to_z-of_z w a h) ∙ ap (to_z w) e ∙ to_z-of_z w b k
 
--- the parts of a quotient, where the divisor is positive
-pub quot_parts : (a d : ℤ) → N d < P d → (P (quot_z a d) ≤ P a) × (N (quot_z a d) ≤ N a)
+-- what `/` and `%` ask, where the divisor is positive
+quot_parts : (a d : ℤ) → N d < P d → (P (quot_z a d) ≤ P a) × (N (quot_z a d) ≤ N a)
 quot_parts (pos a) (pos m) h = omega (arith, div-le_self a m)
 quot_parts (negsuc a) (pos m) h = go (suc a / m) (div-le_self (suc a) m)
   where
@@ -345,6 +345,29 @@ quot_parts (negsuc a) (pos m) h = go (suc a / m) (div-le_self (suc a) m)
     go zero h = omega arith
     go (suc q) h = omega arith
 quot_parts a (negsuc m) h = let z : ⊥ = omega arith in absurd z
+
+rem_parts : (a d : ℤ) → N d < P d → P (rem_z a d) + N (rem_z a d) < P d
+rem_parts (pos a) (pos m) h = omega (arith, mod-lt a {m = m} (omega arith))
+rem_parts (negsuc a) (pos m) h = go (suc a % m) (mod-lt (suc a) {m = m} (omega arith))
+  where
+    go : (q : ℕ) → q < m → P (neg_ℤ (pos q)) + N (neg_ℤ (pos q)) < m
+    go zero h = omega arith
+    go (suc q) h = omega arith
+rem_parts a (negsuc m) h = let z : ⊥ = omega arith in absurd z
+
+-- the bits of a positive number are not 0
+pub nz : (w : Width) {m : ℤ} → pos 1 ≤ℤ m → 0 < of_z w m
+nz w {m = pos n} h = omega (arith, le_in (pos 1) (pos n) h)
+nz w {m = negsuc n} h = absurd h.le
+
+-- the sizes of quotient and remainder, for omega's list
+pub record Sizes (a d : ℤ) : Type 0 where
+  pub quot_p : P (quot_z a d) ≤ P a
+  pub quot_n : N (quot_z a d) ≤ N a
+  pub rem_lt : P (rem_z a d) + N (rem_z a d) < P d
+
+pub sizes : (a d : ℤ) → pos 1 ≤ℤ d → Sizes a d
+sizes a d h = let k : N d < P d = omega (arith, zin) in record { quot_p = (quot_parts a d k).0; quot_n = (quot_parts a d k).1; rem_lt = rem_parts a d k }
 
 -- the size of a number whose sign is known
 pub abs_pos : {z : ℤ} → pos 0 ≤ℤ z → z ≡ pos (nat_abs z)

@@ -1,17 +1,12 @@
 -- Tests: what `T`, `&&` and a test at every place say, and what is picked by a test. Assumes nothing.
-use mathlib.Core.Path.{◌≡◌, refl, sym, ap, subst, ◌∙◌}
-use mathlib.Core.List.{List}
+use mathlib.Core.Path.{◌≡◌, refl, sym, subst, ◌∙◌}
 use mathlib.Core.Logic.{◌⊎◌, inl, inr}
 use mathlib.Core.Bool.{Bool, true, false, ◌&&◌}
-use Prim.Native.Nat.{ℕ, zero, suc, ◌+◌, ◌≤◌, ◌<◌}
+use Prim.Native.Nat.{ℕ, zero, suc, ◌+◌, ◌<◌}
 use native.Mathlib.Numerals.{add-one}
 use native.Mathlib.Nat.{not-suc-le-zero, le_refl, eq-or-lt_of_le, le_of_suc-le-suc}
 use native.Mathlib.Omega.{arith}
 use lib.Dec.{T}
-use lib.ListN.{length, take, get_or}
-use Rattle.std.specs.List.{list_all}
-use Rattle.std.proofs.lemmas.List.Folds.{list_all_more}
-use Rattle.std.proofs.Math.Seq.{take-length}
 use Rattle.whole.specs.Sum.{all}
 
 -- ---- all i < n
@@ -72,14 +67,3 @@ some_false (suc n) f e = go (all n f) (f n) refl refl (some_false n f)
     go a false p q ih = (n, le_refl (suc n), q)
     go false true p q ih = let t = ih p in (t.0, omega (arith, t.1), t.2)
     go true true p q ih = let b : (all n f && f n) ≡ true = rw (p, q) refl in absurd (subst T (sym b ∙ e) tt)
-
--- ---- a test of each element of a list is a test at each of its places
-pub taken_all : {A : Type 0} (d : A) (f : A → Bool) (l : List A) (n : ℕ) → n ≤ length l → list_all f (take n l) ≡ all n (λ i. f (get_or l i d))
-unfolding all
-taken_all d f l zero h = refl
-taken_all d f l (suc n) h =
-    let e : list_all f (take (n + 1) l) ≡ (list_all f (take n l) && f (get_or l n d)) = list_all_more f l n d (omega arith) in
-    rw (← add-one) (e ∙ ap (λ b. b && f (get_or l n d)) (taken_all d f l n (omega arith)))
-
-pub all_list : {A : Type 0} (d : A) (f : A → Bool) (l : List A) → list_all f l ≡ all (length l) (λ i. f (get_or l i d))
-all_list d f l = ap (list_all f) (sym (take-length l)) ∙ taken_all d f l (length l) (le_refl (length l))

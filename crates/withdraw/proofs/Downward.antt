@@ -1,14 +1,11 @@
 -- What a loop seeks from the last down, counted from 1: the entry that has a number, and the point that has a key.
 use mathlib.Core.Path.{◌≡◌, refl, sym, ap, ◌∙◌}
-use mathlib.Core.Logic.{◌≢◌}
 use mathlib.Core.Bool.{Bool, true, false, cond}
 use mathlib.Core.List.{List}
 use Prim.Native.Nat.{ℕ, zero, suc, ◌-◌, ◌≤◌, ◌<◌}
 use native.Mathlib.Omega.{arith}
 use lib.IntN.{ℤ}
-use Rattle.whole.proofs.Tests.{T_true, T_false}
 use Rattle.index.specs.Keys.{eq_z, same}
-use Rattle.index.proofs.Equality.{eq_z_eq, eq_z_refl}
 use Rattle.book.specs.Withdraw.{point_of, entry_with}
 
 -- f n is the last of 0, …, n - 1 that passes the test, counted from 1; 0 where none does
@@ -47,11 +44,3 @@ module _ {f : ℕ → ℕ} {test : ℕ → Bool} (D : Downward f test) (n left :
 
     pub sought_below : test (left - 1) ≡ false → f n ≡ f (left - 1)
     sought_below e = step ∙ ap (λ (b : Bool). cond b (suc (left - 1)) (f (left - 1))) e
-
--- ---- the same for a number that was compared
-module _ (number : ℕ → ℤ) (k : ℤ) (n left : ℕ) (inv : entry_with n number k ≡ entry_with left number k) (some : 0 < left) where
-  pub place_here : number (left - 1) ≡ k → suc (left - 1) ≡ entry_with n number k
-  place_here e = sought_here (place_down number k) n left inv some (T_true (eq_z (number (left - 1)) k) (rw e (eq_z_refl k)))
-
-  pub place_below : number (left - 1) ≢ k → entry_with n number k ≡ entry_with (left - 1) number k
-  place_below h = sought_below (place_down number k) n left inv some (T_false (eq_z (number (left - 1)) k) (λ t. h (eq_z_eq (number (left - 1)) k t)))

@@ -1,6 +1,7 @@
 pub mod Named
 pub mod ClosedUp
 pub mod Downward
+pub mod FromBack
 pub mod Vacated
 pub mod Going
 pub mod Off

@@ -12,11 +12,7 @@ pub fn entry_with(book: &[i32], d: usize, n: usize, number: i32) -> Option<usize
     ensures inside { IfSome result (λ j. j < n) }
 {
     let width = d + 3;
-    // A loop: the closure of a `find` from the back would not know that its entry is inside the book.
-    for i in (0..n).rev() {
-        if book[width * i] == number {
-            return Some(i);
-        }
-    }
-    None
+    book[..width * n]
+        .chunks_exact(width)
+        .rposition(|entry| entry.starts_with(&[number]))
 }

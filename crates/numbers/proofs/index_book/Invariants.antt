@@ -1,6 +1,5 @@
--- The numbers before j are in.
+-- The numbers of so many entries are in.
 use mathlib.Core.Path.{◌≡◌}
-use Prim.Native.Nat.{◌≤◌, ◌+◌}
 use lib.ListN.{length}
 use Rattle.book.specs.Book.{number_at}
 use Rattle.numbers.proofs.Apart.{Copied}
@@ -8,4 +7,4 @@ use Rattle.numbers.proofs.index_book.Given as goal
 
 abbrev pub invariant-loop-j : goal.invariant-loop-j
 invariant-loop-j l =
-    (l.j ≤ l.n) × (l.width ≡ l.d + 3) × (length l.numbers ≡ length l.initial.numbers) × (length l.places ≡ length l.initial.places) × Copied l.j (number_at l.d l.book) l.initial.numbers l.numbers l.places
+    (length l.numbers ≡ length l.initial.numbers) × (length l.places ≡ length l.initial.places) × Copied (length l.yielded) (number_at l.d l.book) l.initial.numbers l.numbers l.places

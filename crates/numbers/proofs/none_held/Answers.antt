@@ -1,32 +1,27 @@
-use mir.Syntax.{w32}
-use mir.Val.{SFits}
-use borrow.Author.Rules.{rules}
-use mathlib.Core.Path.{◌≡◌, refl, sym, ap, ◌∙◌}
-use mathlib.Core.Bool.{Bool, not}
-use Prim.Native.Nat.{ℕ}
-use mir.Facts.{to_z-of_z}
-use Rattle.whole.specs.Sum.{all}
-use Rattle.whole.proofs.Tests.{all_stop, all_more}
+-- Each number that is asked for is that of an entry, and as many are asked for as there are entries.
+use Rattle.std.proofs.Common.{rules, tests}
+use native.Mathlib.Omega.{arith}
+use mathlib.Core.Path.{ap, subst, ◌∙◌}
+use mathlib.Core.Bool.{not}
+use mathlib.Core.List.{List}
+use Prim.Native.Nat.{◌+◌}
+use lib.IntN.{ℤ, pos}
+use Rattle.std.specs.Iterator.Runs.{ItemsMapTo}
+use Rattle.std.specs.Slice.Iter.{iter_rest}
+use Rattle.table.proofs.Passes.{all_run, strided_at, strided_all}
 use Rattle.book.specs.Book.{number_at}
 use Rattle.numbers.specs.Indexing.{is_named}
 use Rattle.numbers.proofs.none_held.Goals as goal
 
-pub loop-j-init : goal.loop-j-init
-unfolding all
-loop-j-init c = (search rules, refl, refl)
-
-pub returns-then-is_held : goal.returns-then-is_held
-returns-then-is_held c =
-    let other : ℕ → Bool = λ j. not (is_named c.args.numbers.now c.args.places.now (number_at c.args.d c.args.source.now j)) in
-    let f : SFits w32 (number_at c.args.d c.args.source.now c.loop-j.j) = search rules in
-    let told : not c.is_held.result ≡ other c.loop-j.j = ap not (c.is_held.ensures ∙ ap (is_named c.args.numbers.now c.args.places.now) (to_z-of_z f)) in
-    let l = c.loop-j in
-    sym (all_stop c.args.count other l.j c.loop-j-test.true (sym told ∙ ap not c.if-is_held.true))
-
-pub loop-j-preserved : goal.loop-j-preserved
-loop-j-preserved c =
-    let other : ℕ → Bool = λ j. not (is_named c.args.numbers.now c.args.places.now (number_at c.args.d c.args.source.now j)) in
-    let f : SFits w32 (number_at c.args.d c.args.source.now c.loop-j.j) = search rules in
-    let told : not c.is_held.result ≡ other c.loop-j.j = ap not (c.is_held.ensures ∙ ap (is_named c.args.numbers.now c.args.places.now) (to_z-of_z f)) in
-    let l = c.loop-j in
-    (search rules, refl, all_more l.j other l.invariant.2 (sym told ∙ ap not c.if-is_held.false))
+pub returns : goal.returns
+returns c =
+    let source = c.args.source.now in
+    let w = c.args.d + 3 in
+    let p = c.all.ensures.runs in
+    let q = c.take.ensures.runs p.0 p.0.seen p.1 in
+    let r = c.step_by.ensures.runs q.1.0 q.1.0.seen q.1.1 in
+    let s = subst (λ (l : List ℤ). ItemsMapTo r.0 (λ y. y.now) l) (ap iter_rest r.1 ∙ c.iter.ensures.rest) (c.iter.ensures.runs r.0 r.0.seen) in
+    all_run p.0 (λ y. y.now) (number_at c.args.d source) (λ z. not (is_named c.args.numbers.now c.args.places.now z)) c.args.count c.all.result p.2
+    (λ x b f k. search (rules, tests)) (λ x k. search (rules, tests)) (λ x k. search (rules, tests)) q.0
+    (strided_all p.0 q.1.0 r.0 source w c.args.count (omega arith) c.requires.d_le_most_d.2 q.1.2.0 r.2 s q.0 q.1.2.1)
+    (strided_at p.0 q.1.0 r.0 source w c.args.count (omega arith) c.requires.d_le_most_d.2 q.1.2.0 r.2 s (pos 0))

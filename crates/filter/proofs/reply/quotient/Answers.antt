@@ -1,18 +1,28 @@
 -- Each return is the first test that fails, or the rounded quotient.
 use borrow.Author.Rules.{rules}
 use native.Mathlib.Omega.{arith}
-use mathlib.Core.Path.{◌≡◌, ap, ap₂, ◌∙◌}
-use lib.IntN.{ℤ, pos, nat_abs}
+use mathlib.Core.Path.{◌≡◌, ap, ◌∙◌}
+use lib.IntN.{pos}
 use mir.Syntax.{w64}
 use mir.Val.{SFits, of_z}
 use mir.Facts.{to_z-of_z}
-use Rattle.whole.specs.Size.{Abs≤}
-use Rattle.whole.specs.Rounding.{rounded}
 use Rattle.whole.proofs.Parts.{zin}
 use Rattle.whole.proofs.Signed.{zlin, zeq, zfits, bits_eq}
-use Rattle.lattice.specs.Limits.{most_value}
-use Rattle.filter.proofs.Quotient.{fraction, quotient_value, no_point, no_mass, answered}
+use Rattle.filter.proofs.Quotient.{fraction, quotient_is, quotient_small, no_point, no_mass, answered}
+use Rattle.filter.proofs.reply.quotient.Goals.{Start, Else-sums-eq0, Else-sums-eq0-2}
 use Rattle.filter.proofs.reply.quotient.Goals as goal
+
+mass_fits : (c : Start) → SFits w64 c.args.sums.mass
+mass_fits c = search rules
+
+value_fits : (c : Start) → SFits w64 c.args.sums.value
+value_fits c = search rules
+
+some_point : (c : Else-sums-eq0) → c.args.sums.weight ≡ pos 0 → ⊥
+some_point c e = c.if-sums-eq0.false (ap (of_z w64) e)
+
+some_mass : (c : Else-sums-eq0-2) → c.args.sums.mass ≡ pos 0 → ⊥
+some_mass c e = c.if-sums-eq0-2.false (ap (of_z w64) e)
 
 pub returns-then-sums-eq0 : goal.returns-then-sums-eq0
 returns-then-sums-eq0 c =
@@ -22,34 +32,24 @@ returns-then-sums-eq0 c =
 
 pub returns-then-sums-eq0-2 : goal.returns-then-sums-eq0-2
 returns-then-sums-eq0-2 c =
-    let some-point : c.args.sums.weight ≡ pos 0 → ⊥ = λ e. c.if-sums-eq0.false (ap (of_z w64) e) in
-    let mass_fits : SFits w64 c.args.sums.mass = search rules in
+    let at = goal.at.returns-then-sums-eq0-2 c in
     let z : SFits w64 (pos 0) = search rules in
-    no_mass _ _ _ _ c.refused-then-sums-eq0-2.ensures some-point (bits_eq mass_fits z c.if-sums-eq0-2.true)
+    no_mass _ _ _ _ c.refused-then-sums-eq0-2.ensures (some_point at.Else-sums-eq0) (bits_eq (mass_fits at.Start) z c.if-sums-eq0-2.true)
 
 pub round_fraction-requires : goal.round_fraction-requires
 round_fraction-requires c =
-    let some-mass : c.args.sums.mass ≡ pos 0 → ⊥ = λ e. c.if-sums-eq0-2.false (ap (of_z w64) e) in
-    let mass_fits : SFits w64 c.args.sums.mass = search rules in
-    let value_fits : SFits w64 c.args.sums.value = search rules in
-    rw (to_z-of_z value_fits, to_z-of_z mass_fits) (fraction _ _ c.requires some-mass)
-
-pub overflow_cast-result : goal.overflow_cast-result
-overflow_cast-result c =
-    let some-mass : c.args.sums.mass ≡ pos 0 → ⊥ = λ e. c.if-sums-eq0-2.false (ap (of_z w64) e) in
-    let mass_fits : SFits w64 c.args.sums.mass = search rules in
-    let value_fits : SFits w64 c.args.sums.value = search rules in
-    let quotient : c.round_fraction.result ≡ rounded c.args.sums.value (nat_abs c.args.sums.mass) = c.round_fraction.ensures ∙ ap₂ (λ (v m : ℤ). rounded v (nat_abs m)) (to_z-of_z value_fits) (to_z-of_z mass_fits) in
-    let small : Abs≤ c.round_fraction.result most_value = rw quotient (quotient_value _ _ c.requires some-mass) in
-    let b = small in zfits (search zlin depth 14) (omega (arith, zin))
+    let at = goal.at.round_fraction-requires c in
+    rw (to_z-of_z (value_fits at.Start), to_z-of_z (mass_fits at.Start)) (fraction _ _ c.requires (some_mass at.Else-sums-eq0-2))
 
 pub returns : goal.returns
 returns c =
-    let some-point : c.args.sums.weight ≡ pos 0 → ⊥ = λ e. c.if-sums-eq0.false (ap (of_z w64) e) in
-    let some-mass : c.args.sums.mass ≡ pos 0 → ⊥ = λ e. c.if-sums-eq0-2.false (ap (of_z w64) e) in
-    let mass_fits : SFits w64 c.args.sums.mass = search rules in
-    let value_fits : SFits w64 c.args.sums.value = search rules in
-    let quotient : c.round_fraction.result ≡ rounded c.args.sums.value (nat_abs c.args.sums.mass) = c.round_fraction.ensures ∙ ap₂ (λ (v m : ℤ). rounded v (nat_abs m)) (to_z-of_z value_fits) (to_z-of_z mass_fits) in
-    let small : Abs≤ c.round_fraction.result most_value = rw quotient (quotient_value _ _ c.requires some-mass) in
-    let b = small in
-    answered _ _ _ _ (zeq (search zlin depth 14) (omega (arith, zin)) ∙ quotient) some-point some-mass
+    let at = goal.at.returns c in
+    let quotient = quotient_is _ _ (value_fits at.Start) (mass_fits at.Start) c.round_fraction.ensures in
+    let b = quotient_small _ _ c.requires (some_mass at.Else-sums-eq0-2) quotient in
+    answered _ _ _ _ (zeq (search zlin depth 14) (omega (arith, zin)) ∙ quotient) (some_point at.Else-sums-eq0) (some_mass at.Else-sums-eq0-2)
+
+pub overflow_cast-result : goal.overflow_cast-result
+overflow_cast-result c =
+    let at = goal.at.overflow_cast-result c in
+    let b = quotient_small _ _ c.requires (some_mass at.Else-sums-eq0-2) (quotient_is _ _ (value_fits at.Start) (mass_fits at.Start) c.round_fraction.ensures) in
+    zfits (search zlin depth 14) (omega (arith, zin))

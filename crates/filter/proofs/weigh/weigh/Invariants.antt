@@ -1,5 +1,4 @@
-use mathlib.Core.Path.{◌≡◌}
-use Prim.Native.Nat.{◌+◌, ◌≤◌}
+-- The slots before k are weighed.
 use Rattle.whole.specs.Lists.{collect}
 use Rattle.simplex.specs.Slots.{slot}
 use Rattle.table.specs.Heads.{settings, table}
@@ -7,6 +6,4 @@ use Rattle.filter.specs.Inner.{WeighedIs}
 use Rattle.filter.proofs.weigh.weigh.Given as goal
 
 abbrev pub invariant-loop-k : goal.invariant-loop-k
-invariant-loop-k l =
-    (l.k ≤ l.n) × (l.n ≡ l.head.d + 1)
-    × WeighedIs (settings l.head) (table l.head l.keys l.sheet l.index) (collect l.k (slot l.head.d l.weights l.coords)) l.weight l.mass l.value
+invariant-loop-k l = WeighedIs (settings l.head) (table l.head l.keys l.sheet l.index) (collect l.k (slot l.head.d l.weights l.coords)) l.sums.weight l.sums.mass l.sums.value

@@ -1,38 +1,17 @@
-use borrow.Author.Rules.{rules}
+-- The search for each key is asked, in order, up to the first that does not find its point.
+use Rattle.std.proofs.Common.{rules, tests}
+use Rattle.std.proofs.lemmas.Iterator.{YieldsList-from_range}
+use Rattle.std.proofs.lemmas.Iterator.Search.{all_from_yields_List}
 use native.Mathlib.Omega.{arith}
-use mathlib.Core.Path.{◌≡◌, refl, ap, sym, ◌∙◌}
-use mathlib.Core.Bool.{Bool}
-use Prim.Native.Nat.{ℕ}
-use borrow.Author.Tests.{not-true, not-false}
-use Rattle.whole.specs.Sum.{all}
-use Rattle.whole.proofs.Tests.{all_more, all_stop}
+use mathlib.Core.Path.{refl, ◌∙◌}
+use Rattle.table.proofs.Passes.{all_range}
 use Rattle.index.specs.Indexed.{finding}
 use Rattle.soundness.specs.Inner.{is_found}
 use Rattle.soundness.proofs.places.finds_all.Goals as goal
-use Rattle.soundness.proofs.places.finds_all.Goals.{Start}
-
--- whether point j is found
-abbrev found : Start → ℕ → Bool
-found s = is_found s.args.d s.args.capacity s.args.keys.now s.args.index.now
-
-pub loop-i-init : goal.loop-i-init
-unfolding all
-loop-i-init c = (search rules, refl)
-
-pub returns-then-not-finds : goal.returns-then-not-finds
-unfolding finding
-returns-then-not-finds c =
-    let l = c.loop-i in
-    sym (all_stop c.args.points (found (goal.at.returns-then-not-finds c).Start) l.i (search rules) (sym c.finds.ensures ∙ not-true _ c.if-not-finds.true-raw))
-
-pub loop-i-preserved : goal.loop-i-preserved
-loop-i-preserved c =
-    let l = c.loop-i in
-    (search rules, all_more l.i (found (goal.at.loop-i-preserved c).Start) l.invariant.1 (sym c.finds.ensures ∙ not-false _ c.if-not-finds.false-raw))
 
 pub returns : goal.returns
 unfolding finding
 returns c =
-    let l = c.loop-i in
-    let e : l.i ≡ c.args.points = omega arith in
-    sym (ap (λ (n : ℕ). all n (found (goal.at.returns c).Start)) (sym e) ∙ l.invariant.1)
+    let a = c.args in
+    all_from_yields_List (is_found a.d a.capacity a.keys.now a.index.now) _ _ c.all.result c.all.ensures.ran (YieldsList-from_range 0 a.points a.points refl (omega arith)) (λ x b q k. search (rules, tests))
+    ∙ all_range (is_found a.d a.capacity a.keys.now a.index.now) a.points

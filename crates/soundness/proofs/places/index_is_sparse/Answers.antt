@@ -1,36 +1,22 @@
-use borrow.Author.Rules.{rules}
-use native.Mathlib.Omega.{arith}
-use mathlib.Core.Path.{refl, sym}
+-- What the two passes over the index answer.
+use Rattle.std.proofs.Common.{rules, tests}
+use Rattle.std.proofs.iter.runs.Made.{chains}
+use Rattle.std.proofs.lemmas.Iterator.{YieldsList-from_slice}
+use Rattle.std.proofs.lemmas.Iterator.Search.{all_from_yields_List}
+use mathlib.Core.Path.{◌≡◌}
 use lib.Dec.{leb}
-use lib.ListN.{length}
-use borrow.Author.Tests.{le-leb}
-use Rattle.whole.specs.Sum.{all}
-use Rattle.whole.proofs.Tests.{all_more}
-use Rattle.index.specs.Search.{entry_at}
-use Rattle.soundness.proofs.Counting.{tally_most, count_none, count_next, sparse_stop, sparse_done}
+use Rattle.soundness.proofs.Counting.{named, sparse_stop, sparse_done}
 use Rattle.soundness.proofs.places.index_is_sparse.Goals as goal
 
-pub loop-p-init : goal.loop-p-init
-unfolding all
-loop-p-init c = (search rules, refl, search rules, refl, count_none (entry_at c.args.index.now))
+pub returns-then-all : goal.returns-then-all
+returns-then-all c =
+    let l = c.args.index.now in
+    let m = c.args.points in
+    let n : c.count.result ≡ named l m = search (rules, chains) in
+    sparse_done l m (all_from_yields_List (λ e. leb e m) _ _ c.all.result c.all.ensures.ran (YieldsList-from_slice l cc) (λ x b q k. search (rules, tests))) c.if-all.true n
 
-pub returns-then-points-e : goal.returns-then-points-e
-returns-then-points-e c =
-    let l = c.loop-p in
-    sym (sparse_stop (length c.args.index.now) c.args.points (entry_at c.args.index.now) l.p (omega (arith, l.invariant.1)) c.if-points-e.true)
-
-pub loop-p-preserved : goal.loop-p-preserved
-loop-p-preserved c =
-    let l = c.loop-p in
-    let entry = entry_at c.args.index.now in (
-      search rules,
-      l.invariant.1,
-      omega (arith, l.invariant.2, c.tally_of-named.ensures, tally_most (entry l.p)),
-      all_more l.p (λ q. leb (entry q) c.args.points) l.invariant.3 (le-leb (entry l.p) c.args.points c.if-points-e.false),
-      count_next entry l.p l.invariant.4 c.tally_of-named.ensures,
-    )
-
-pub returns : goal.returns
-returns c =
-    let l = c.loop-p in
-    sparse_done (length c.args.index.now) c.args.points (entry_at c.args.index.now) l.p (omega (arith, l.invariant.1)) l.invariant.3 l.invariant.4
+pub returns-else-all : goal.returns-else-all
+returns-else-all c =
+    let l = c.args.index.now in
+    let m = c.args.points in
+    sparse_stop l m (all_from_yields_List (λ e. leb e m) _ _ c.all.result c.all.ensures.ran (YieldsList-from_slice l cc) (λ x b q k. search (rules, tests))) c.if-all.false

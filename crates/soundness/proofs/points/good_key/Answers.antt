@@ -6,7 +6,6 @@ use mathlib.Core.Bool.{true}
 use Prim.Native.Nat.{◌+◌}
 use lib.IntN.{ℤ, pos, neg_ℤ, ◌-ℤ◌}
 use lib.ListN.{length}
-use borrow.Author.Tests.{not-true, not-false}
 use mir.Syntax.{w32}
 use mir.Val.{to_z, SFits}
 use mir.Facts.{to_z-of_z}
@@ -23,11 +22,11 @@ use Rattle.lattice.specs.Limits.{farthest_point}
 use Rattle.soundness.specs.Inner.{good_coordinate}
 use Rattle.soundness.proofs.Coordinates.{coordinate_near, key_stop, key_done}
 use Rattle.soundness.proofs.points.good_key.Goals as goal
-use Rattle.soundness.proofs.points.good_key.Goals.{After-c-1, After-remainder_of-remainder, Else-not-good_coordinate}
+use Rattle.soundness.proofs.points.good_key.Goals.{After-good_coordinate, After-remainder_of-remainder, Else-not-good_coordinate}
 
-pub loop-j-init : goal.loop-j-init
+pub loop-c-init : goal.loop-c-init
 unfolding sum all
-loop-j-init c = (search rules, refl, refl, zeq (search zlin depth 14) (omega arith), zabs (search zlin depth 14) (omega arith))
+loop-c-init c = (refl, zeq (search zlin depth 14) (omega arith), zabs (search zlin depth 14) (omega arith))
 
 -- the remainder that all are held to is that of coordinate 0
 own : (c : After-remainder_of-remainder) → c.remainder_of-remainder.result ≡ remainder (at c.args.key.now 0) (length c.args.key.now + 1)
@@ -36,38 +35,33 @@ own c =
     let f : SFits w32 (at key 0) = search rules in
     c.remainder_of-remainder.ensures ∙ ap (λ (z : ℤ). remainder z (length key + 1)) (to_z-of_z f)
 
-fit : (c : After-c-1) → SFits w32 (at c.args.key.now c.loop-j.j)
-fit c = search rules
+-- what is tested is the coordinate
+tested : (c : After-good_coordinate) → c.good_coordinate.result ≡ good_coordinate (length c.args.key.now + 1) c.remainder_of-remainder.result (at c.args.key.now c.loop-c.c-index)
+tested c =
+    let f : SFits w32 (at c.args.key.now c.loop-c.c-index) = search rules in
+    c.good_coordinate.ensures ∙ ap (good_coordinate _ _) (to_z-of_z f)
 
 pub returns-then-not-good_coordinate : goal.returns-then-not-good_coordinate
 returns-then-not-good_coordinate c =
-    let l = c.loop-j in
-    key_stop c.args.key.now c.requires.0 (add-one _) (own (goal.at.returns-then-not-good_coordinate c).After-remainder_of-remainder) l.j (search rules)
-    (c.good_coordinate.ensures ∙ ap (good_coordinate _ _) (to_z-of_z (fit (goal.at.returns-then-not-good_coordinate c).After-c-1))) (not-true _ c.if-not-good_coordinate.true-raw)
+    key_stop c.args.key.now c.requires.0 (add-one _) (own (goal.at.returns-then-not-good_coordinate c).After-remainder_of-remainder) c.loop-c.c-index (search rules)
+    (tested (goal.at.returns-then-not-good_coordinate c).After-good_coordinate) c.if-not-good_coordinate.true
 
-here : (c : Else-not-good_coordinate) → good_coordinate (length c.args.key.now + 1) c.remainder_of-remainder.result (at c.args.key.now c.loop-j.j) ≡ true
-here c = sym (c.good_coordinate.ensures ∙ ap (good_coordinate _ _) (to_z-of_z (fit c.before.before))) ∙ not-false _ c.if-not-good_coordinate.false-raw
+here : (c : Else-not-good_coordinate) → good_coordinate (length c.args.key.now + 1) c.remainder_of-remainder.result (at c.args.key.now c.loop-c.c-index) ≡ true
+here c = sym (tested c.before) ∙ c.if-not-good_coordinate.false
 
-near : (c : Else-not-good_coordinate) → Abs≤ (at c.args.key.now c.loop-j.j) farthest_point
-near c = coordinate_near _ _ _ (here c)
-
-pub loop-j-preserved : goal.loop-j-preserved
-loop-j-preserved c =
-    let f = fit (goal.at.loop-j-preserved c).After-c-1 in
-    let n = near c in
-    let p = c.requires in
+pub loop-c-preserved : goal.loop-c-preserved
+loop-c-preserved c =
+    let i = c.loop-c.c-index in
     let key = c.args.key.now in
-    let q = eq_plus (sum (c.loop-j.j + 1) (at key)) (sum c.loop-j.j (at key)) (at key c.loop-j.j) (sum_more c.loop-j.j (at key)) in (
-      search rules,
-      refl,
-      all_more c.loop-j.j (λ i. good_coordinate _ _ (at key i)) c.loop-j.invariant.2 (here c),
-      zeq (search zlin depth 14) (omega (arith, zin, p.1)),
-      zabs (search zlin depth 14) (omega (arith, zin, p.1)),
-    )
+    let h = here (goal.at.loop-c-preserved c).Else-not-good_coordinate in
+    let n : Abs≤ (at key i) farthest_point = coordinate_near _ _ _ h in
+    let p = c.requires in
+    let q = eq_plus (sum (i + 1) (at key)) (sum i (at key)) (at key i) (sum_more i (at key)) in
+    (all_more i (λ i. good_coordinate _ _ (at key i)) c.loop-c.invariant.0 h, zeq (search zlin depth 14) (omega (arith, zin, p.1)), zabs (search zlin depth 14) (omega (arith, zin, p.1)))
 
 pub returns : goal.returns
 returns c =
     let key = c.args.key.now in
-    let e : c.loop-j.j ≡ length key = omega arith in
-    let z : W32 (pos 0 -ℤ to_z w32 c.loop-j.total-bits) ≡ neg_ℤ (sum c.loop-j.j (at key)) = zeq (search zlin depth 14) (omega (arith, zin, c.requires.1)) in
-    key_done key c.requires.0 (add-one _) (own (goal.at.returns c).After-remainder_of-remainder) c.loop-j.j e c.loop-j.invariant.2 z c.good_coordinate-2.ensures
+    let e : c.loop-c.c-index ≡ length key = search rules in
+    let z : W32 (pos 0 -ℤ to_z w32 c.loop-c.total-bits) ≡ neg_ℤ (sum c.loop-c.c-index (at key)) = zeq (search zlin depth 14) (omega (arith, zin, c.requires.1)) in
+    key_done key c.requires.0 (add-one _) (own (goal.at.returns c).After-remainder_of-remainder) c.loop-c.c-index e c.loop-c.invariant.0 z c.good_coordinate-2.ensures

@@ -41,15 +41,6 @@ here c = sym c.good_row.ensures ∙ c.if-not-good_row.false
 mass : (c : Else-not-good_row) → Within (pos 1) (pos c.args.total) (mass_at c.before.before.before.before c.loop-i.i)
 mass c = row_mass _ _ _ _ _ (here c)
 
-pub overflow_mul-mass : goal.overflow_mul-mass
-overflow_mul-mass c = let p = c.requires in record { fits = omega (arith, p.few) }
-
-pub offset_bounds-sums-i : goal.offset_bounds-sums-i
-offset_bounds-sums-i c = let p = c.requires in omega (arith, p.few)
-
-pub bounds-sums-i : goal.bounds-sums-i
-bounds-sums-i c = let p = c.requires in omega (arith, p.pairs)
-
 pub overflow_add-masses : goal.overflow_add-masses
 overflow_add-masses c =
     let p = c.requires in
@@ -71,5 +62,5 @@ pub returns : goal.returns
 returns c =
     let l = c.loop-i in
     let e : l.i ≡ c.args.points = omega arith in
-    bits_same c.args.total (omega arith) (sym (of_z-to_z c.loop-i.auto.masses-fits) ∙ ap (of_z w64) l.invariant.2) l.invariant.2
+    bits_same c.args.total (search rules) c.from.ensures (sym (of_z-to_z c.loop-i.auto.masses-fits) ∙ ap (of_z w64) l.invariant.2) l.invariant.2
     ∙ rows_done c.args.total c.args.d c.args.keys.now c.args.sums.now c.args.points l.i e l.invariant.1 refl
