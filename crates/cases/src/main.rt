@@ -44,30 +44,32 @@ fn print_points(rt: &impl Print, s: Simplex, n: usize) -> io::Result<()>
 }
 
 // A position of two to six coordinates: the points around it, or its refusal.
-fn show(rt: &impl Print, x: &[i32], fineness: u32) -> io::Result<()>
-    requires coordinates { (2 ≤ length x.now) × (length x.now ≤ 6) }
-    requires fine { (1 ≤ fineness) × (fineness ≤ 64) }
-{
+fn show(rt: &impl Print, x: &[i32], fineness: u32) -> io::Result<()> {
+    let n = x.len();
+    if !(2..=6).contains(&n) || !(1..=64).contains(&fineness) {
+        return Ok(());
+    }
     print!(rt; "FINENESS {fineness} POSITION")?;
     print_numbers(rt, x)?;
     println!(rt; "")?;
     if let Err(refusal) = judge(x) {
         return println!(rt; "REFUSED {}", refusal.number());
     }
-    let n = x.len();
     print_points(rt, enclose(x, n - 1, fineness), n)
 }
 
-fn show_rounded(rt: &impl Print, num: i32, den: i32) -> io::Result<()>
-    requires { pos 1 ≤ℤ den }
-{
+fn show_rounded(rt: &impl Print, num: i32, den: i32) -> io::Result<()> {
+    if den < 1 {
+        return Ok(());
+    }
     let r = round_fraction(i64::from(num), i64::from(den));
     println!(rt; "ROUNDED {num} {den} {r}")
 }
 
-fn show_remainder(rt: &impl Print, x: i32, m: u32) -> io::Result<()>
-    requires { (1 ≤ m) × (m ≤ 1000) }
-{
+fn show_remainder(rt: &impl Print, x: i32, m: u32) -> io::Result<()> {
+    if !(1..=1000).contains(&m) {
+        return Ok(());
+    }
     let r = remainder_of(x, m);
     println!(rt; "REMAINDER {x} {m} {r}")
 }
