@@ -3,6 +3,7 @@
 use crate::print::print_numbers;
 use crate::tables::enter_fresh;
 use filter::filter;
+use lattice::refusals::number_told;
 use std::io;
 use table::Head;
 
@@ -32,7 +33,7 @@ fn show_answers(
     let mut second = [9i64; 16];
     let mut values = [9i32; 5];
     let mut codes = [9u8; 5];
-    let number = filter(
+    let done = filter(
         head,
         keys,
         sums,
@@ -44,7 +45,7 @@ fn show_answers(
         &mut values,
         &mut codes,
     );
-    println!(rt; "FILTERED {number}")?;
+    println!(rt; "FILTERED {}", number_told(&done))?;
     print_sheet(rt, &first)?;
     print_sheet(rt, &second)?;
     print_answers(rt, &values, &codes)

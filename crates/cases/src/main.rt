@@ -51,9 +51,8 @@ fn show(rt: &impl Print, x: &[i32], fineness: u32) -> io::Result<()>
     print!(rt; "FINENESS {fineness} POSITION")?;
     print_numbers(rt, x)?;
     println!(rt; "")?;
-    let number = judge(x);
-    if number != 0 {
-        return println!(rt; "REFUSED {number}");
+    if let Err(refusal) = judge(x) {
+        return println!(rt; "REFUSED {}", refusal.number());
     }
     let n = x.len();
     print_points(rt, enclose(x, n - 1, fineness), n)

@@ -3,6 +3,7 @@
 use crate::print::print_numbers;
 use book::fresh::fresh;
 use enter::enter;
+use lattice::refusals::number_told;
 use listing::list;
 use merge::merge;
 use std::io;
@@ -28,8 +29,7 @@ pub fn print_table(
     book: &[i32],
     order: &mut [u16],
 ) -> io::Result<()> {
-    let number = list(head, keys, sums, index, book, order);
-    if number != 0 {
+    if list(head, keys, sums, index, book, order).is_err() {
         return Ok(());
     }
     println!(rt;
@@ -62,9 +62,17 @@ pub fn enter_fresh(
 ) -> io::Result<Head> {
     let capacity = keys.len();
     let room = book.len() / 4;
-    let made = fresh(1, fineness, capacity, room, keys, sums, index, book);
-    let entered = enter(made.head, keys, sums, index, book, readings);
-    println!(rt; "TAKEN {} {}", entered.taken, entered.number)?;
+    let given = Head {
+        d: 1,
+        fineness,
+        capacity,
+        room,
+        readings: 0,
+        points: 0,
+    };
+    let head = fresh(1, fineness, capacity, room, keys, sums, index, book).unwrap_or(given);
+    let entered = enter(head, keys, sums, index, book, readings);
+    println!(rt; "TAKEN {} {}", entered.taken, number_told(&entered.end))?;
     Ok(entered.head)
 }
 
@@ -117,8 +125,8 @@ fn show_source_merged(
         &source_index,
         &source_book,
     );
-    println!(rt; "MERGED {}", merged.number)?;
-    print_table(rt, merged.head, keys, sums, index, book, order)?;
+    println!(rt; "MERGED {}", number_told(&merged))?;
+    print_table(rt, merged.unwrap_or(head), keys, sums, index, book, order)?;
     print_book(rt, book)
 }
 

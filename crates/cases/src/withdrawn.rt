@@ -1,6 +1,7 @@
 // A reading of document 01's log taken back. Its table is entered as above, with the numbers 7 and -3,
 // and its book has room for a third, in which something else stands.
 use crate::tables::{enter_fresh, print_book, print_table};
+use lattice::refusals::number_told;
 use std::io;
 use table::Head;
 use withdraw::withdraw;
@@ -17,8 +18,8 @@ fn show_left(
     number: i32,
 ) -> io::Result<()> {
     let left = withdraw(head, keys, sums, index, book, number);
-    println!(rt; "WITHDRAWN {}", left.number)?;
-    print_table(rt, left.head, keys, sums, index, book, order)?;
+    println!(rt; "WITHDRAWN {}", number_told(&left))?;
+    print_table(rt, left.unwrap_or(head), keys, sums, index, book, order)?;
     print_book(rt, book)
 }
 

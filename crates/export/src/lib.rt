@@ -14,6 +14,7 @@ ghost use Rattle.load.specs.Loading.{LoadsIn, load};
 ghost use Rattle.report.specs.Report.{Reports};
 ghost use Rattle.export.specs.Numbers.{head_from};
 
+use lattice::refusals::number_told;
 use table::Head;
 
 // Makes a fresh table of these settings. The readings and points told are 0, refused or not, whatever
@@ -36,13 +37,9 @@ pub fn vimrothi_fresh(
         AnswersBookIn (head_of c room.old) (fresh_refusal c b) (after_fresh c b) result after keys sums index book) }
 {
     let made = book::fresh::fresh(*d, *fineness, *capacity, *room, keys, sums, index, book);
-    *d = made.head.d;
-    *fineness = made.head.fineness;
-    *capacity = made.head.capacity;
-    *room = made.head.room;
-    *readings = made.head.readings;
-    *points = made.head.points;
-    made.number
+    *readings = 0;
+    *points = 0;
+    number_told(&made)
 }
 
 // Enters a list of readings, each with its number, and tells how many were taken.
@@ -74,14 +71,10 @@ pub fn vimrothi_enter(
         points: *points,
     };
     let entered = enter::enter(head, keys, sums, index, book, list);
-    *d = entered.head.d;
-    *fineness = entered.head.fineness;
-    *capacity = entered.head.capacity;
-    *room = entered.head.room;
     *readings = entered.head.readings;
     *points = entered.head.points;
     *taken = entered.taken;
-    entered.number
+    number_told(&entered.end)
 }
 
 // Adds a source table, which is only read, to a target table.
@@ -144,13 +137,14 @@ pub fn vimrothi_merge(
         source_index,
         source_book,
     );
-    *d = merged.head.d;
-    *fineness = merged.head.fineness;
-    *capacity = merged.head.capacity;
-    *room = merged.head.room;
-    *readings = merged.head.readings;
-    *points = merged.head.points;
-    merged.number
+    match merged {
+        Ok(after) => {
+            *readings = after.readings;
+            *points = after.points;
+            0
+        }
+        Err(refusal) => refusal.number(),
+    }
 }
 
 // Takes back the reading that has this number.
@@ -181,14 +175,14 @@ pub fn vimrothi_withdraw(
         readings: *readings,
         points: *points,
     };
-    let withdrawn = withdraw::withdraw(head, keys, sums, index, book, number);
-    *d = withdrawn.head.d;
-    *fineness = withdrawn.head.fineness;
-    *capacity = withdrawn.head.capacity;
-    *room = withdrawn.head.room;
-    *readings = withdrawn.head.readings;
-    *points = withdrawn.head.points;
-    withdrawn.number
+    match withdraw::withdraw(head, keys, sums, index, book, number) {
+        Ok(after) => {
+            *readings = after.readings;
+            *points = after.points;
+            0
+        }
+        Err(refusal) => refusal.number(),
+    }
 }
 
 // Lists a table's points in the order of their keys.
@@ -216,7 +210,8 @@ pub fn vimrothi_list(
         readings,
         points,
     };
-    listing::list(head, keys, sums, index, book, list)
+    let done = listing::list(head, keys, sums, index, book, list);
+    number_told(&done)
 }
 
 // Answers queries over a table, which is only read.
@@ -249,9 +244,10 @@ pub fn vimrothi_filter(
         readings,
         points,
     };
-    filter::filter(
+    let done = filter::filter(
         head, keys, sums, index, book, first, second, queries, values, codes,
-    )
+    );
+    number_told(&done)
 }
 
 // Loads a log with a book of this room, and tells its length or the offset that it was refused at.
@@ -283,7 +279,7 @@ pub fn vimrothi_load(
     *readings = loaded.head.readings;
     *points = loaded.head.points;
     *offset = loaded.offset;
-    loaded.number
+    number_told(&loaded.end)
 }
 
 // Writes what dyemap prints for a log, and answers how many bytes that is.

@@ -17,7 +17,6 @@ use Rattle.table.specs.Table.{Settings, Table}
 use Rattle.table.specs.Sound.{Ranged}
 use Rattle.blur.specs.Blur.{masses, values}
 use Rattle.blur.proofs.Stored.{not_stored}
-use Rattle.filter.specs.declared.reply.Reply.{Reply}
 use Rattle.filter.specs.Answer.{weighted, meets, code_by, beside, value_by}
 use Rattle.filter.specs.Inner.{WeighedIs, Weighable, sums_code, sums_value, QuotientIs, Smooth, ReplyIs}
 use Rattle.filter.proofs.Weighing.{weighted_over, meets_ones, weights_light}
@@ -50,12 +49,12 @@ module _ (c : Settings) (t : Table) (A : Smooth c t) (q : List ℤ) (ws : List �
 
 -- ---- what is answered
 -- a refused query
-refused_is : (c : Settings) (t : Table) (q : List ℤ) (r : Reply) (x : ℕ) → r ≡ record { value = pos 0; code = x } → x ≡ code_by c t (masses c t) q → (x ≡ 0 → ⊥) → ReplyIs c t q r.value r.code
+refused_is : (c : Settings) (t : Table) (q : List ℤ) (x : ℕ) → x ≡ code_by c t (masses c t) q → (x ≡ 0 → ⊥) → ReplyIs c t q (pos 0) x
 unfolding value_by
-refused_is c t q r x e k h = subst (λ (r : Reply). ReplyIs c t q r.value r.code) (sym e) (record { value_is = sym (beside_none (code_by c t (masses c t) q) _ (λ z. h (k ∙ z))); code_is = k })
+refused_is c t q x k h = record { value_is = sym (beside_none (code_by c t (masses c t) q) _ (λ z. h (k ∙ z))); code_is = k }
 
-pub refused_position : (c : Settings) (t : Table) (q : List ℤ) (r : Reply) (x : ℕ) → r ≡ record { value = pos 0; code = x } → x ≡ judged q → (x ≡ 0 → ⊥) → ReplyIs c t q r.value r.code
-refused_position c t q r x e j h = refused_is c t q r x e (j ∙ sym (by_position c t (masses c t) q (λ z. h (j ∙ z)))) h
+pub refused_position : (c : Settings) (t : Table) (q : List ℤ) (x : ℕ) → x ≡ judged q → (x ≡ 0 → ⊥) → ReplyIs c t q (pos 0) x
+refused_position c t q x j h = refused_is c t q x (j ∙ sym (by_position c t (masses c t) q (λ z. h (j ∙ z)))) h
 
 -- the three sums at a position
 module _ (c : Settings) (t : Table) (A : Smooth c t) (q : List ℤ) (j : judged q ≡ 0) (w m v : ℤ) (W : WeighedIs c t (weighed c.d c.S q) w m v) where

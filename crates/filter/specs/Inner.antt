@@ -1,5 +1,6 @@
 -- What the functions that answer queries ask of one another and leave. The sums of the table here are a sheet of blurred pairs.
-use Rattle.std.specs.Prelude.{◌≡◌, Bool, not, cond, ◌&&◌, List, ℕ, suc, ◌<◌, leb, ℤ, pos, neg_ℤ, nat_abs, ◌*ℤ◌, length, take, ◌≤ℤ◌}
+use Rattle.std.specs.Prelude.{◌≡◌, Bool, not, cond, ◌&&◌, List, ℕ, suc, ◌<◌, leb, ℤ, pos, neg_ℤ, nat_abs, ◌*ℤ◌, length, take, ◌≤ℤ◌, Result}
+use Rattle.std.specs.Result.{result_unwrap_or}
 use Rattle.whole.specs.Size.{Abs≤}
 use Rattle.whole.specs.Rounding.{rounded, most_fraction}
 use Rattle.whole.specs.Sum.{over}
@@ -7,6 +8,7 @@ use Rattle.whole.specs.Lists.{at, tab, collect}
 use Rattle.lattice.specs.Limits.{most_d, most_coords, most_C, most_W, most_value}
 use Rattle.lattice.specs.Refusals.{first}
 use Rattle.lattice.specs.Lattice.{Point}
+use Rattle.lattice.specs.declared.refusals.Refusal.{Refusal}
 use Rattle.simplex.specs.Slots.{slot_numbers, slot}
 use Rattle.index.specs.Keys.{eq_z}
 use Rattle.table.specs.Table.{Settings, Table, key, mass, value, whole}
@@ -14,6 +16,10 @@ use Rattle.blur.specs.Blur.{is_stored, masses, values}
 use Rattle.blur.specs.Inner.{most_blurred, Readable}
 use Rattle.filter.specs.Answer.{met_tests, code_by, beside, value_by}
 use Rattle.filter.specs.Filter.{query_at, query_count, lent_fits}
+
+-- the value of a reply, and 0 beside a code
+abbrev pub value_told : Result ℤ Refusal → ℤ
+value_told reply = result_unwrap_or reply (pos 0)
 
 -- 1 at a stored point, and 0 elsewhere
 abbrev pub ones : Settings → Table → List ℤ → ℤ

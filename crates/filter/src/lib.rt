@@ -4,6 +4,7 @@
 #![tactic(auto)]
 
 ghost use Rattle.std.specs.Prelude.{◌≡◌};
+ghost use Rattle.lattice.specs.Refusals.{told};
 ghost use Rattle.table.specs.Heads.{settings};
 ghost use Rattle.book.specs.Heads.{booked};
 ghost use Rattle.filter.specs.Filter.{FiltersIn};
@@ -16,6 +17,7 @@ use crate::reply::reply_all;
 use blur::blur;
 use carried::refusal_of;
 use lattice::limits::{MOST_CAPACITY, MOST_D};
+use lattice::refusals::Refusal;
 use table::Head;
 
 // Whether two sheets of 2·C numbers are lent, whole queries of d + 1 numbers, and a value and a code
@@ -55,9 +57,9 @@ pub fn filter(
     queries: &[i32],
     values: &mut [i32],
     codes: &mut [u8],
-) -> u8
+) -> Result<(), Refusal>
     ensures { let b = booked head keys.now sums.now index.now book.now in
-        FiltersIn (settings head) b queries.now result first second values codes }
+        FiltersIn (settings head) b queries.now (told result) first second values codes }
 {
     let more = lent_fits(
         head.d,
@@ -68,11 +70,8 @@ pub fn filter(
         values.len(),
         codes.len(),
     );
-    let number = refusal_of(head, keys, sums, index, book, more);
-    if number != 0 {
-        return number;
-    }
+    refusal_of(head, keys, sums, index, book, more)?;
     blur(head, keys, sums, index, first, second);
     reply_all(head, keys, index, first, queries, values, codes);
-    0
+    Ok(())
 }

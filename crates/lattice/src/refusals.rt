@@ -1,6 +1,6 @@
 // The refusals of documents 01 and 02, each with its number.
 ghost use Rattle.std.specs.Prelude.{◌≡◌};
-ghost use Rattle.lattice.specs.Refusals.{number};
+ghost use Rattle.lattice.specs.Refusals.{number, told};
 
 // Why a call, a reading, a query or an item is refused.
 #[derive(Clone, Copy, Debug, PartialEq, Eq)]
@@ -72,5 +72,15 @@ impl Refusal {
             Refusal::NumberNotHeld => 19,
             Refusal::NumberHeld => 20,
         }
+    }
+}
+
+// The number that an outcome tells, and 0 where nothing is refused.
+pub fn number_told<T>(outcome: &Result<T, Refusal>) -> u8
+    ensures { result ≡ told outcome.now }
+{
+    match outcome {
+        Ok(_) => 0,
+        Err(refusal) => refusal.number(),
     }
 }

@@ -15,8 +15,7 @@ use Rattle.table.proofs.Refusals.{T_of}
 use Rattle.reader.specs.Bytes.{byte_at}
 use Rattle.reader.specs.Kinds.{kind_of, body_length, is_listed, placed, of_dimension}
 use Rattle.reader.specs.declared.kinds.Kind.{Kind}
-use Rattle.reader.specs.declared.items.Item.TheVariants.{Of}
-use Rattle.reader.specs.Items.{settings_of, form_refusal, unless, end_at, item_at, number_of}
+use Rattle.reader.specs.Items.{Of, settings_of, form_refusal, unless, end_at, item_at, number_of}
 use Rattle.promises.specs.Refusals.{Not}
 use Rattle.promises.specs.LogRefusals.{ItemRefused}
 

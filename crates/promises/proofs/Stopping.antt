@@ -14,14 +14,12 @@ use Rattle.book.specs.Book.{Booked}
 use Rattle.book.specs.Calls.{Outcome, enter_all, fresh_booked, fresh_refusal}
 use Rattle.book.specs.Theorems.{FineBook, Holds}
 use Rattle.reader.specs.declared.kinds.Kind.{Kind}
-use Rattle.reader.specs.Items.{after_settings, settings_of, item_at, width_of}
+use Rattle.reader.specs.Items.{Item, Of, End, Refused, after_settings, settings_of, item_at, width_of}
 use Rattle.reader.specs.Content.{Brought, Said, said_at}
 use Rattle.reader.specs.Walk.{Walk, then, ends, item_then, walk_from, walk, readings_in, readings, items, Place, before}
 use Rattle.load.specs.Loading.{Load, or_else, start_refusal, take_number, take_booked, item_number, stop_at, load_walk, started, load}
 use Rattle.load.specs.Numbering.{numbering}
 use Rattle.load.specs.Theorems.{entered_of}
-use Rattle.reader.specs.declared.items.Item.{Item}
-use Rattle.reader.specs.declared.items.Item.TheVariants.{Of, End, Refused}
 use Rattle.reader.proofs.Forms.{Formed, formed}
 use Rattle.reader.proofs.Contents.{said_sized}
 use Rattle.reader.proofs.CutItems.{item_end}

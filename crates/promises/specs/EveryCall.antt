@@ -16,7 +16,6 @@ use Rattle.book.specs.Calls.{lent_book, fresh_refusal, after_fresh, enter_refusa
 use Rattle.listing.specs.Listing.{list_refusal, after_list}
 use Rattle.filter.specs.Filter.{Lent, filter_refusal, after_filter}
 use Rattle.reader.specs.declared.Reader.{Reader}
-use Rattle.reader.specs.declared.items.Item.{Item}
 use Rattle.reader.specs.Reader.{here, moved_on}
 use Rattle.promises.specs.Allowed.{One, Answering}
 use Rattle.book.specs.contracts.fresh.fresh as fresh_call
@@ -56,6 +55,7 @@ use Rattle.reader.proofs.reader_at.Reads as reader_at_call_reads
 use Rattle.reader.specs.contracts.next as next_call
 use Rattle.reader.proofs.next.Reads as next_call_reads
 use Rattle.reader.specs.contracts.read_at as read_at_call
+use Rattle.reader.specs.Items.{Item}
 use Rattle.reader.proofs.read_at.Reads as read_at_call_reads
 
 -- Statement: each call, each function of `export`, which the one of its name for C calls with the same clauses, and each function of the reader asks nothing, and its contract allows one outcome.

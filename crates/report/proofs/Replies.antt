@@ -6,6 +6,8 @@ use native.Mathlib.Omega.{arith}
 use lib.IntN.{ℤ}
 use lib.ListN.{length, take, length-append}
 use lib.Seq.{take_at}
+use mathlib.Core.Logic.{◌⊎◌, inl, inr}
+use Rattle.lattice.specs.declared.refusals.Refusal.{Refusal}
 use Rattle.whole.specs.Lists.{All}
 use Rattle.table.specs.Table.{Settings, Table}
 use Rattle.blur.specs.Blur.{blurred_mass, blurred_value}
@@ -15,28 +17,30 @@ use Rattle.blur.proofs.Sheets.{sheet_length}
 use Rattle.filter.specs.Answer.{code, answer}
 use Rattle.filter.specs.Inner.{ReplyIs}
 use Rattle.filter.proofs.Answers.{smooth, code_same, value_same}
-use Rattle.reader.specs.Kinds.{row_of}
-use Rattle.reader.specs.Items.{after_settings, settings_of, item_at, values_of, width_of}
+use Rattle.reader.specs.Kinds.{row_of, body_length}
+use Rattle.reader.specs.Items.{Item, Of, End, Refused, after_settings, settings_of, item_at, values_of, width_of}
 use Rattle.reader.specs.Content.{Said, asks, said_by, said_at}
 use Rattle.reader.specs.Walk.{Walk, item_then, walk, queries_in}
 use Rattle.reader.specs.Inner.{Says}
 use Rattle.reader.specs.declared.kinds.Kind.{Kind}
 use Rattle.reader.specs.declared.kinds.Meaning.{Meaning}
 use Rattle.reader.specs.declared.kinds.Meaning.TheVariants.{Reads, Asks, Refuses}
-use Rattle.reader.specs.declared.items.Item.{Item}
-use Rattle.reader.specs.declared.items.Item.TheVariants.{Of, End, Refused}
-use Rattle.reader.proofs.Forms.{Stood, Formed, of_form}
+use Rattle.reader.proofs.Forms.{Stood, of_form}
 use Rattle.reader.proofs.Walking.{walk_step}
 use Rattle.reader.proofs.Contents.{said_by_lem, query_sized}
 use Rattle.text.specs.Text.{Written}
 use Rattle.text.proofs.Lines.{written_nothing, written_then, written_room}
 use Rattle.report.specs.Report.{answer_line, answer_lines, query_text, per_query}
-use Rattle.report.specs.Inner.{reply_line, reply_text, ReplyRoom, RepliesRoom, AnswersRoom}
+use Rattle.report.specs.Inner.{reply_line, ReplyRoom, RepliesRoom, AnswersRoom}
 
 -- ---- one item
-module _ {c : Settings} {t : Table} {l : List ℕ} {a : ℕ} {i : Item} {at size : ℕ} (R : ReplyRoom c t l a i at size) {k : Kind} (e : i ≡ Of k) where
+-- what it adds to the text
+abbrev pub item_text : Settings → Table → List ℕ → ℕ → Kind → List ℕ
+item_text c t l a k = query_text (reply_line c t) (said_at l a k)
+
+module _ {c : Settings} {t : Table} {l : List ℕ} {a : ℕ} {k : Kind} {at size : ℕ} (R : ReplyRoom c t l a k at size) where
   pub an_item : Stood l a k
-  an_item = subst (Formed l a) e (of_form l a i R.item_is)
+  an_item = of_form l a (Of k) R.item_is
 
   abbrev values : List ℤ
   values = values_of l a (Of k)
@@ -57,35 +61,26 @@ module _ {c : Settings} {t : Table} {l : List ℕ} {a : ℕ} {i : Item} {at size
     part_of = ap (take (c.d + 1)) p.after_is ∙ take_at values _ (c.d + 1) (omega (arith, asked_size))
 
     module _ {value : ℤ} {code : ℕ} (r : ReplyIs c t part value code) where
-      line_is : answer_line value code ≡ reply_text c t l a i
-      line_is = ap₂ answer_line r.value_is r.code_is ∙ ap (reply_line c t) part_of ∙ ap (query_text (reply_line c t)) (sym said_is) ∙ ap (reply_text c t l a) (sym e)
+      line_is : answer_line value code ≡ item_text c t l a k
+      line_is = ap₂ answer_line r.value_is r.code_is ∙ ap (reply_line c t) part_of ∙ ap (query_text (reply_line c t)) (sym said_is)
 
       pub query_room : at + length (answer_line value code) ≤ size
       query_room = rw line_is R.space
 
-      pub query_done : {o out : List ℕ} {next : ℕ} → Written o at (answer_line value code) next out → Written o at (reply_text c t l a i) next out
+      pub query_done : {o out : List ℕ} {next : ℕ} → Written o at (answer_line value code) next out → Written o at (item_text c t l a k) next out
       query_done w = rw line_is at w
 
 -- an item that is no query adds nothing
-no_text : (f : List ℤ → List ℕ) (d : ℕ) (ns : List ℤ) (m : Meaning) → (m ≡ Asks → ⊥) → [] ≡ query_text f (said_by m d ns)
-no_text f d ns (Reads from) h = refl
-no_text f d ns Asks h = absurd (h refl)
-no_text f d ns (Refuses x) h = refl
+no_text : (f : List ℤ → List ℕ) (d : ℕ) (ns : List ℤ) (m : Meaning) → ((x : ℕ) × (m ≡ Reads x)) ⊎ ((x : Refusal) × (m ≡ Refuses x)) → [] ≡ query_text f (said_by m d ns)
+no_text f d ns m (inl (x, e)) = rw e refl
+no_text f d ns m (inr (x, e)) = rw e refl
 
-pub no_query : (c : Settings) (t : Table) (l : List ℕ) (a : ℕ) (i : Item) (k : Kind) (o : List ℕ) (at : ℕ) → i ≡ Of k → (m : Meaning) → m ≡ (row_of k.family).means → (m ≡ Asks → ⊥) → Written o at (reply_text c t l a i) at o
-no_query c t l a i k o at e m f h =
-    subst (λ (x : List ℕ). Written o at x at o)
-    (no_text (reply_line c t) k.d (values_of l a (Of k)) m h ∙ ap (query_text (reply_line c t)) (said_by_lem l a k f) ∙ ap (reply_text c t l a) (sym e)) (written_nothing o at)
+pub no_query : (c : Settings) (t : Table) (l : List ℕ) (a : ℕ) (k : Kind) (o : List ℕ) (at : ℕ) {m : Meaning} → m ≡ (row_of k.family).means → ((x : ℕ) × (m ≡ Reads x)) ⊎ ((x : Refusal) × (m ≡ Refuses x)) → Written o at (item_text c t l a k) at o
+no_query c t l a k o at {m} f h =
+    subst (λ (x : List ℕ). Written o at x at o) (no_text (reply_line c t) k.d (values_of l a (Of k)) m h ∙ ap (query_text (reply_line c t)) (said_by_lem l a k f)) (written_nothing o at)
 
 -- ---- the items in turn
 module _ (c : Settings) (t : Table) (l : List ℕ) where
-  step_text : (a : ℕ) (i : Item) (w : Walk) → 0 < a → (width_of i ≡ 0 → ⊥) → Formed l a i
-      → per_query (reply_line c t) (item_then l a i w) ≡ reply_text c t l a i ++ per_query (reply_line c t) w
-  unfolding per_query
-  step_text a (Of k) w h n f = refl
-  step_text a End w h n f = absurd (n refl)
-  step_text a (Refused x) w h n f = absurd (n refl)
-
   last_text : (a : ℕ) (i : Item) (w : Walk) → width_of i ≡ 0 → per_query (reply_line c t) (item_then l a i w) ≡ []
   unfolding per_query
   last_text a (Of k) w z = absurd (omega arith)
@@ -107,46 +102,41 @@ pub replies_start : (c : Settings) (t : Table) (l o : List ℕ) (a : ℕ) → Re
 replies_start c t l o a = record { done = []; written = written_nothing o a; whole = refl; later = omega arith }
 
 module _ {c : Settings} {t : Table} {l o : List ℕ} {a next : ℕ} {out : List ℕ} {offset : ℕ} (R : RepliesRoom c t l a (length o))
-    (P : Replying c t l o a next out offset) {i : Item} (e : i ≡ item_at l offset) where
-  module _ {after : ℕ} (k : after ≡ offset + width_of i) where
-    -- an item is left
-    module _ (n : after ≡ offset → ⊥) where
-      some : width_of i ≡ 0 → ⊥
-      some z = n (omega (arith, k, z))
+    (P : Replying c t l o a next out offset) where
+  -- an item of a kind is left
+  module _ {k : Kind} (e : Of k ≡ item_at l offset) {after : ℕ} (behind : after ≡ offset + suc (body_length k)) where
+    abbrev text : List ℕ
+    text = item_text c t l offset k
 
-      ahead : lines_from c t l offset ≡ reply_text c t l offset i ++ lines_from c t l after
-      ahead = rw k (walk_lines ∙ step_text c t l offset i (walk l (offset + width_of i)) P.later some (of_form l offset i e))
-        where
-          walk_lines : lines_from c t l offset ≡ per_query (reply_line c t) (item_then l offset i (walk l (offset + width_of i)))
-          walk_lines = ap (per_query (reply_line c t)) (walk_step l offset ∙ ap (λ (i : Item). item_then l offset i (walk l (offset + width_of i))) (sym e))
+    ahead : lines_from c t l offset ≡ text ++ lines_from c t l after
+    unfolding per_query
+    ahead = rw behind (ap (per_query (reply_line c t)) (walk_step l offset ∙ ap (λ (i : Item). item_then l offset i (walk l (offset + width_of i))) (sym e)))
 
-      all_lines : (P.done ++ reply_text c t l offset i) ++ lines_from c t l after ≡ lines_from c t l after_settings
-      all_lines = append_assoc P.done (reply_text c t l offset i) (lines_from c t l after) ∙ ap (λ (x : List ℕ). P.done ++ x) (sym ahead) ∙ P.whole
+    all_lines : (P.done ++ text) ++ lines_from c t l after ≡ lines_from c t l after_settings
+    all_lines = append_assoc P.done text (lines_from c t l after) ∙ ap (λ (x : List ℕ). P.done ++ x) (sym ahead) ∙ P.whole
 
-      space_left : a + length P.done + length (reply_text c t l offset i) ≤ length o
-      space_left = let q = ap length all_lines in omega (arith, rw (length-append, length-append) at q, R.space)
+    space_left : a + length P.done + length text ≤ length o
+    space_left = let q = ap length all_lines in omega (arith, rw (length-append, length-append) at q, R.space)
 
-      pub reply_room : ReplyRoom c t l offset i next (length out)
-      reply_room = record {
-        smooth = R.smooth;
-        settings_are = R.settings_are;
-        item_is = e;
-        space = written_room (length (reply_text c t l offset i)) P.written space_left;
-      }
+    pub reply_room : ReplyRoom c t l offset k next (length out)
+    reply_room = record {
+      smooth = R.smooth;
+      settings_are = R.settings_are;
+      item_is = e;
+      space = written_room (length text) P.written space_left;
+    }
 
-      pub replies_more : {next' : ℕ} {out' : List ℕ} → Written out next (reply_text c t l offset i) next' out' → Replying c t l o a next' out' after
-      replies_more w = record {
-        done = P.done ++ reply_text c t l offset i;
-        written = written_then P.written w space_left;
-        whole = all_lines;
-        later = omega (arith, P.later, k);
-      }
+    pub replies_more : {next' : ℕ} {out' : List ℕ} → Written out next text next' out' → Replying c t l o a next' out' after
+    replies_more w = record {
+      done = P.done ++ text;
+      written = written_then P.written w space_left;
+      whole = all_lines;
+      later = omega (arith, P.later, behind);
+    }
 
-    -- none is
-    pub replies_end : after ≡ offset → Written o a (lines_from c t l after_settings) next out
-    replies_end y =
-        let z : width_of i ≡ 0 = omega (arith, k, y) in
-        rw (← P.whole, walk_step l offset, ← e, last_text c t l offset i (walk l (offset + width_of i)) z, append-nil) P.written
+  -- none is
+  pub replies_end : {i : Item} → i ≡ item_at l offset → width_of i ≡ 0 → Written o a (lines_from c t l after_settings) next out
+  replies_end {i} e z = rw (← P.whole, walk_step l offset, ← e, last_text c t l offset i (walk l (offset + width_of i)) z, append-nil) P.written
 
 -- ---- the answers, by the sheet that the blur leaves
 module _ {c : Settings} {t : Table} {l : List ℕ} {at size : ℕ} (R : AnswersRoom c t l at size) {first second : List ℤ} (B : Blurred c t first second) where

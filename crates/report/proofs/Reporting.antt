@@ -7,9 +7,8 @@ use lib.ListN.{length}
 use borrow.Author.Tests.{le-leb, lt-leb}
 use Rattle.lattice.specs.Refusals.{program_limit}
 use Rattle.text.specs.Text.{Written}
-use Rattle.report.specs.declared.opening.Opening.{Opening}
-use Rattle.report.specs.Report.{most_bytes, refused_line, settled_text, report, room, fitting, Reports}
-use Rattle.report.specs.Inner.{RefusedRoom, Opens, Settled}
+use Rattle.report.specs.Report.{most_bytes, refused_line, settings_refusal, settled_text, report, room, fitting, Reports}
+use Rattle.report.specs.Inner.{RefusedRoom}
 use Rattle.report.proofs.Fitting.{refused_fits}
 
 -- a buffer that suffices
@@ -27,28 +26,20 @@ pub too_long : (l : List ℕ) {buffer after : List ℕ} {bytes : ℕ} → room �
 unfolding report
 too_long l h k w = written l h (rw (lt-leb (length l) most_bytes k) refl) w
 
--- ---- by the number of the settings
+-- ---- by what the settings are refused with, or ask for
 refused_text : (l : List ℕ) (x : ℕ) → (x ≡ 0 → ⊥) → settled_text x l ≡ refused_line x 0
 refused_text l zero z = absurd (z refl)
 refused_text l (suc x) z = refl
 
-module _ (l : List ℕ) (k : length l ≤ most_bytes) {o : Opening} (O : Opens l o) where
-  text_is : report l ≡ settled_text o.number l
+module _ (l : List ℕ) (k : length l ≤ most_bytes) {x : ℕ} (n : x ≡ settings_refusal l) where
+  text_is : report l ≡ settled_text x l
   unfolding report
-  text_is = rw (le-leb (length l) most_bytes k, O.number_is) refl
+  text_is = rw (le-leb (length l) most_bytes k, n) refl
 
-  pub not_settled : {buffer after : List ℕ} {bytes : ℕ} → room ≤ length buffer → (o.number ≡ 0 → ⊥)
-      → Written buffer 0 (refused_line o.number 0) bytes after → Reports l buffer bytes after
-  not_settled h z w = written l h (text_is ∙ refused_text l o.number z) w
+  pub not_settled : {buffer after : List ℕ} {bytes : ℕ} → room ≤ length buffer → (x ≡ 0 → ⊥)
+      → Written buffer 0 (refused_line x 0) bytes after → Reports l buffer bytes after
+  not_settled h z w = written l h (text_is ∙ refused_text l x z) w
 
-  pub settled : {size : ℕ} → room ≤ size → o.number ≡ 0 → Settled l o.d o.capacity size
-  settled h z = record {
-    taken = record { short = k; ranged = O.ranged z; few = O.few z };
-    d_is = O.d_is z;
-    capacity_is = O.capacity_is z;
-    space = h;
-  }
-
-  pub reported : {buffer after : List ℕ} {bytes : ℕ} → room ≤ length buffer → o.number ≡ 0
+  pub reported : {buffer after : List ℕ} {bytes : ℕ} → room ≤ length buffer → x ≡ 0
       → Written buffer 0 (settled_text 0 l) bytes after → Reports l buffer bytes after
   reported h z w = written l h (text_is ∙ ap (λ (x : ℕ). settled_text x l) z) w

@@ -11,15 +11,14 @@ use Rattle.blur.specs.Blur.{masses, values}
 use Rattle.filter.specs.Answer.{code_by, value_by}
 use Rattle.filter.specs.Inner.{Smooth}
 use Rattle.text.specs.Text.{line}
-use Rattle.reader.specs.Items.{settings_of, item_at}
+use Rattle.reader.specs.Items.{Of, settings_of, item_at}
 use Rattle.reader.specs.Content.{said_at}
+use Rattle.reader.specs.declared.kinds.Kind.{Kind}
 use Rattle.reader.specs.Walk.{items}
 use Rattle.book.specs.Book.{Booked}
 use Rattle.load.specs.Loading.{load}
-use Rattle.reader.specs.declared.items.Item.{Item}
-use Rattle.reader.specs.declared.items.Item.TheVariants.{Of, End, Refused}
 use Rattle.report.specs.declared.opening.Opening.{Opening}
-use Rattle.report.specs.Report.{most_bytes, most_log_capacity, room, point_word, head_line, point_lines, answer_line, answer_lines, query_text, per_query, table_text, settings_refusal, refused_line, loaded_text}
+use Rattle.report.specs.Report.{most_bytes, most_log_capacity, room, point_word, head_line, point_lines, answer_line, answer_lines, query_text, per_query, table_text, refused_line, loaded_text}
 
 -- as many numbers as a line has at most: six coordinates, a mass and a value sum
 abbrev pub most_in_line : ℕ
@@ -89,18 +88,12 @@ pub record PointsRoom (c : Settings) (t : Table) (at size : ℕ) : Type 0 where
 abbrev pub reply_line : Settings → Table → List ℤ → List ℕ
 reply_line c t q = answer_line (value_by c t (masses c t) (values c t) q) (code_by c t (masses c t) q)
 
--- what an item adds to the text: the line of a query
-abbrev pub reply_text : Settings → Table → List ℕ → ℕ → Item → List ℕ
-reply_text c t l a (Of k) = query_text (reply_line c t) (said_at l a k)
-reply_text c t l a End = []
-reply_text c t l a (Refused x) = []
-
--- a sheet for the settings of the log, an item of it, and room for its line
-pub record ReplyRoom (c : Settings) (t : Table) (l : List ℕ) (a : ℕ) (i : Item) (at size : ℕ) : Type 0 where
+-- a sheet for the settings of the log, an item of a kind that stands in it, and room for its line
+pub record ReplyRoom (c : Settings) (t : Table) (l : List ℕ) (a : ℕ) (k : Kind) (at size : ℕ) : Type 0 where
   pub smooth : Smooth c t
   pub settings_are : c ≡ settings_of l
-  pub item_is : i ≡ item_at l a
-  pub space : at + length (reply_text c t l a i) ≤ size
+  pub item_is : Of k ≡ item_at l a
+  pub space : at + length (query_text (reply_line c t) (said_at l a k)) ≤ size
 
 -- a sheet for the settings of the log, and room for the lines of all queries
 pub record RepliesRoom (c : Settings) (t : Table) (l : List ℕ) (at size : ℕ) : Type 0 where
@@ -120,13 +113,12 @@ pub record TableRoom (c : Settings) (t : Table) (l : List ℕ) (size : ℕ) : Ty
   pub settings_are : c ≡ settings_of l
   pub space : length (table_text c t l) ≤ size
 
--- what the settings of a log ask for: their number, and where that is 0 the dimension and the capacity, which the program has memory for
+-- what the settings of a log ask for: a dimension and a capacity, in their ranges, which the program has memory for
 pub record Opens (l : List ℕ) (o : Opening) : Type 0 where
-  pub number_is : o.number ≡ settings_refusal l
-  pub d_is : o.number ≡ 0 → o.d ≡ (settings_of l).d
-  pub capacity_is : o.number ≡ 0 → o.capacity ≡ (settings_of l).C
-  pub ranged : o.number ≡ 0 → Ranged (settings_of l)
-  pub few : o.number ≡ 0 → (settings_of l).C ≤ most_log_capacity
+  pub d_is : o.d ≡ (settings_of l).d
+  pub capacity_is : o.capacity ≡ (settings_of l).C
+  pub ranged : Ranged (settings_of l)
+  pub few : (settings_of l).C ≤ most_log_capacity
 
 -- a log that the program takes, and settings that it has memory for
 pub record Taken (l : List ℕ) : Type 0 where

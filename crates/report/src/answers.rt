@@ -1,23 +1,23 @@
 // The lines of a log's queries, in their order, answered over all of its readings.
 ghost use Rattle.std.specs.Prelude.{length};
 ghost use Rattle.table.specs.Heads.{settings, table};
+ghost use Rattle.reader.specs.Content.{said_at};
 ghost use Rattle.reader.specs.Walk.{items};
 ghost use Rattle.text.specs.Text.{Written};
-ghost use Rattle.report.specs.Report.{answer_lines, per_query};
-ghost use Rattle.report.specs.Inner.{reply_line, reply_text, ReplyRoom, RepliesRoom, AnswersRoom};
+ghost use Rattle.report.specs.Report.{answer_lines, query_text, per_query};
+ghost use Rattle.report.specs.Inner.{reply_line, ReplyRoom, RepliesRoom, AnswersRoom};
 
 use crate::MOST_LOG_CAPACITY;
 use crate::lines::put_answer;
 use blur::blur;
 use filter::reply::reply_at;
 use reader::content::{MOST_NUMBERS, content_at};
-use reader::items::Item;
-use reader::kinds::Meaning;
+use reader::kinds::{Kind, Meaning};
 use reader::read_at;
 use reader::settings::AFTER_SETTINGS;
 use table::Head;
 
-// One item: the line of a query, and nothing for a reading.
+// An item of a kind: the line of a query, and nothing for any other.
 fn put_reply(
     out: &mut [u8],
     at: usize,
@@ -27,23 +27,19 @@ fn put_reply(
     sheet: &[i64],
     log: &[u8],
     offset: usize,
-    item: Item,
+    kind: Kind,
 ) -> usize
-    requires { ReplyRoom (settings head) (table head keys.now sheet.now index.now) log.now offset item at (length out.old) }
+    requires { ReplyRoom (settings head) (table head keys.now sheet.now index.now) log.now offset kind at (length out.old) }
     ensures { let t = table head keys.now sheet.now index.now in
-        Written out.old at (reply_text (settings head) t log.now offset item) result out.new }
+        Written out.old at (query_text (reply_line (settings head) t) (said_at log.now offset kind)) result out.new }
 {
-    let Item::Of(kind) = item else {
-        return at;
-    };
     let mut numbers = [0i32; MOST_NUMBERS];
-    let means = content_at(log, offset, kind, &mut numbers);
-    match means {
+    match content_at(log, offset, kind, &mut numbers) {
         Meaning::Asks => {
             let reply = reply_at(head, keys, index, sheet, &numbers[..head.d + 1]);
             put_answer(out, at, reply.value, reply.code)
         }
-        _ => at,
+        Meaning::Reads(_) | Meaning::Refuses(_) => at,
     }
 }
 
@@ -66,11 +62,12 @@ fn put_replies(
     // A loop: an item is answered by the offset that it stands at, and the items alone do not say it.
     loop {
         let found = read_at(log, offset);
-        // no byte is taken: the items end here
-        if found.next == offset {
-            break;
-        }
-        next = put_reply(out, next, head, keys, index, sheet, log, offset, found.item);
+        let kind = match found.item {
+            Ok(Some(kind)) => kind,
+            Ok(None) => break,
+            Err(_) => break,
+        };
+        next = put_reply(out, next, head, keys, index, sheet, log, offset, kind);
         offset = found.next;
     }
     next

@@ -21,7 +21,7 @@ use crate::lines::{put_head, put_refused};
 use crate::opening::opening_of;
 use crate::points::put_points;
 use lattice::limits::MOST_D;
-use lattice::refusals::PROGRAM_LIMIT;
+use lattice::refusals::Refusal;
 use load::load;
 use table::Head;
 
@@ -69,10 +69,10 @@ fn put_loaded(
         Written out.old 0 (loaded_text log.now o.number o) result out.new }
 {
     let loaded = load(log, BOOK_ROOM, keys, sums, index, book);
-    if loaded.number != 0 {
-        return put_refused(out, loaded.number, loaded.offset);
+    match loaded.end {
+        Ok(()) => put_table(out, loaded.head, keys, sums, index, log),
+        Err(refusal) => put_refused(out, refusal, loaded.offset),
     }
-    put_table(out, loaded.head, keys, sums, index, log)
 }
 
 // The log in memory of the program's own.
@@ -104,11 +104,10 @@ pub fn report(log: &[u8], out: &mut [u8]) -> usize
         return 0;
     }
     if MOST_BYTES < log.len() {
-        return put_refused(out, PROGRAM_LIMIT, MOST_BYTES);
+        return put_refused(out, Refusal::ProgramLimit, MOST_BYTES);
     }
-    let opening = opening_of(log);
-    if opening.number != 0 {
-        return put_refused(out, opening.number, 0);
+    match opening_of(log) {
+        Ok(opening) => put_log(out, log, opening.d, opening.capacity),
+        Err(refusal) => put_refused(out, refusal, 0),
     }
-    put_log(out, log, opening.d, opening.capacity)
 }

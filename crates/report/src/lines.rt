@@ -1,9 +1,11 @@
 // The four kinds of lines, each with its fixed word.
 ghost use Rattle.std.specs.Prelude.{◌≡◌, ◌+◌, ◌≤◌, length};
+ghost use Rattle.lattice.specs.Refusals.{number};
 ghost use Rattle.text.specs.Text.{Written};
 ghost use Rattle.report.specs.Report.{answer_line, refused_line};
 ghost use Rattle.report.specs.Inner.{counts_line, HeadRoom, RefusedRoom, LiesIn, PointRoom, line_numbers, line_at};
 
+use lattice::refusals::Refusal;
 use table::Head;
 use text::put_line;
 
@@ -69,11 +71,16 @@ pub fn put_answer(out: &mut [u8], at: usize, value: i32, code: u8) -> usize
     put_line(out, at, b"ANSWER", &[i64::from(value), i64::from(code)])
 }
 
-// REFUSED: number, offset. It is the whole of the text.
-pub fn put_refused(out: &mut [u8], number: u8, offset: usize) -> usize
-    requires { RefusedRoom number offset (length out.old) }
-    ensures { Written out.old 0 (refused_line number offset) result out.new }
+// REFUSED: the number of the refusal, offset. It is the whole of the text.
+pub fn put_refused(out: &mut [u8], refusal: Refusal, offset: usize) -> usize
+    requires { RefusedRoom (number refusal) offset (length out.old) }
+    ensures { Written out.old 0 (refused_line (number refusal) offset) result out.new }
 {
     // The offset is cast, as the counts of a head are.
-    put_line(out, 0, b"REFUSED", &[i64::from(number), offset as i64])
+    put_line(
+        out,
+        0,
+        b"REFUSED",
+        &[i64::from(refusal.number()), offset as i64],
+    )
 }

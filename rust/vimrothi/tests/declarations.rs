@@ -192,10 +192,26 @@ fn defined_for_c() -> Vec<(String, usize)> {
     named.collect()
 }
 
+/// The numbers that a text in Rattle gives the cases of `Refusal`, by the cases' names as a constant has them.
+fn numbered_cases(text: &str) -> Vec<(String, usize)> {
+    let numbered = text.lines().filter_map(|line| {
+        let (case, number) = line.trim().strip_prefix("Refusal::")?.strip_suffix(',')?.split_once(" => ")?;
+        let mut name = String::new();
+        for letter in case.chars() {
+            if letter.is_uppercase() && !name.is_empty() {
+                name.push('_');
+            }
+            name.extend(letter.to_uppercase());
+        }
+        Some((name, number.parse().ok()?))
+    });
+    numbered.collect()
+}
+
 /// The refusal numbers of the library, after 0 for a call that was done.
 fn refusal_numbers() -> Vec<(String, usize)> {
     let mut numbers = vec![("DONE".to_string(), 0)];
-    numbers.extend(constants(&text_of("crates/lattice/src/refusals.rt")));
+    numbers.extend(numbered_cases(&text_of("crates/lattice/src/refusals.rt")));
     assert!(numbers.len() > 1, "the library has refusal numbers");
     numbers
 }

@@ -28,13 +28,13 @@ pub returns-then-sums-eq0 : goal.returns-then-sums-eq0
 returns-then-sums-eq0 c =
     let weight_fits : SFits w64 c.args.sums.weight = search rules in
     let z : SFits w64 (pos 0) = search rules in
-    no_point _ _ _ _ c.refused.ensures (bits_eq weight_fits z c.if-sums-eq0.true)
+    no_point _ _ _ (bits_eq weight_fits z c.if-sums-eq0.true)
 
 pub returns-then-sums-eq0-2 : goal.returns-then-sums-eq0-2
 returns-then-sums-eq0-2 c =
     let at = goal.at.returns-then-sums-eq0-2 c in
     let z : SFits w64 (pos 0) = search rules in
-    no_mass _ _ _ _ c.refused-then-sums-eq0-2.ensures (some_point at.Else-sums-eq0) (bits_eq (mass_fits at.Start) z c.if-sums-eq0-2.true)
+    no_mass _ _ _ (some_point at.Else-sums-eq0) (bits_eq (mass_fits at.Start) z c.if-sums-eq0-2.true)
 
 pub round_fraction-requires : goal.round_fraction-requires
 round_fraction-requires c =
