@@ -13,7 +13,6 @@ mod step;
 
 use crate::pass::pass;
 use table::Head;
-use table::clear::clear_sums;
 
 // Pass k, and its pairs back into the first sheet.
 fn pass_back(
@@ -60,8 +59,8 @@ pub fn blur(
         Blurred (settings head) t first.new second.new }
 {
     let numbers = 2 * head.points;
-    clear_sums(first);
+    first.fill(0);
     first[..numbers].copy_from_slice(&sums[..numbers]);
     all_passes(head, keys, index, first, second);
-    clear_sums(second);
+    second.fill(0);
 }

@@ -8,7 +8,6 @@ ghost use Rattle.book.specs.Heads.{lent_in, AnswersBookIn};
 use crate::settings::{in_range, lengths_fit};
 use lattice::refusals::Refusal;
 use table::Head;
-use table::clear::{clear_index, clear_keys, clear_sums};
 
 // The head of these settings with no reading and no point, and the slices filled with 0; refused, they
 // are left as they were.
@@ -40,10 +39,10 @@ pub fn fresh(
     ) {
         return Err(Refusal::OtherLength);
     }
-    clear_keys(keys);
-    clear_sums(sums);
-    clear_index(index);
-    clear_keys(book);
+    keys.fill(0);
+    sums.fill(0);
+    index.fill(0);
+    book.fill(0);
     Ok(Head {
         d,
         fineness,

@@ -19,7 +19,7 @@ use Rattle.table.proofs.Turns.{pour_turn, holds_of, holds_at}
 use Rattle.index.specs.Keys.{key_at}
 use Rattle.index.specs.Search.{entry_at, search}
 use Rattle.index.proofs.Equality.{key_at_length, stretch_fits, key_part}
-use lib.Seq.{get_or-take, get_or-drop}
+use Rattle.whole.proofs.Pieces.{piece_at}
 use Rattle.merge.specs.Source.{source_row, first_rows}
 
 -- all of them are those of the table, where its dimension is d
@@ -37,7 +37,7 @@ piece_size d n i keys l h e = ap length (piece_key d n i keys l h e) ∙ key_at_
 
 -- a number of pair i of its lent sums
 pub pair_number : (sums : List ℤ) (i j : ℕ) {p : List ℤ} {x : ℤ} → j < 2 → p ≡ take 2 (drop (2 * i) sums) → x ≡ at p j → x ≡ at sums (2 * i + j)
-pair_number sums i j l e q = q ∙ ap (λ (p : List ℤ). at p j) e ∙ get_or-take 2 (drop (2 * i) sums) j (pos 0) l ∙ get_or-drop (2 * i) sums j (pos 0)
+pair_number sums i j l e q = q ∙ piece_at 2 i sums e j (pos 0) l
 
 -- row i as it is lent on, with its key and its pair
 module _ (c : Settings) (t : Table) (keys sums : List ℤ) (i : ℕ) {k : List ℤ} {m v : ℤ} (e : k ≡ key_at c.d keys i) (p : m ≡ at sums (2 * i + 0)) (q : v ≡ at sums (2 * i + 1)) where

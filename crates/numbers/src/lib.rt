@@ -58,8 +58,9 @@ pub fn index_book(numbers: &mut [i32], places: &mut [u16], book: &[i32], d: usiz
     requires d_le_most_d { (d ≤ most_d) × (n ≤ most_readings) × ((d + 3) * n ≤ length book.now) }
     ensures { IndexesBook n (number_at d book.now) numbers.old result numbers.new places.new }
 {
-    for (j, number) in book.iter().step_by(d + 3).take(n).enumerate() {
-        if !add_number(numbers, places, j, *number) {
+    let width = d + 3;
+    for (j, entry) in book[..width * n].chunks_exact(width).enumerate() {
+        if !add_number(numbers, places, j, entry[0]) {
             return false;
         }
     }
@@ -83,11 +84,10 @@ fn none_held(numbers: &[i32], places: &[u16], source: &[i32], d: usize, count: u
     requires d_le_most_d { (d ≤ most_d) × (count ≤ most_readings) × ((d + 3) * count ≤ length source.now) }
     ensures { result ≡ all count (λ j. not (is_named numbers.now places.now (number_at d source.now j))) }
 {
-    source
-        .iter()
-        .step_by(d + 3)
-        .take(count)
-        .all(|number| !is_held(numbers, places, *number))
+    let width = d + 3;
+    source[..width * count]
+        .chunks_exact(width)
+        .all(|entry| !is_held(numbers, places, entry[0]))
 }
 
 // Whether none of the numbers of so many entries of a source is held in a target of n entries. The

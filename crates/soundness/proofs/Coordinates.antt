@@ -13,12 +13,11 @@ use Rattle.whole.specs.Sum.{sum, over, all}
 use Rattle.whole.specs.Lists.{at}
 use Rattle.whole.proofs.Size.{abs_of}
 use Rattle.whole.proofs.Sum.{sum_list}
-use Rattle.whole.proofs.Tests.{and_l, and_r, and_i, all_at, all_of, all_stop, T_ext}
+use Rattle.whole.proofs.Tests.{and_l, and_r, and_i, all_at, all_of, all_stop, all_cong, T_ext}
 use Rattle.lattice.specs.Limits.{farthest_point}
 use Rattle.table.specs.Table.{whole}
 use Rattle.table.specs.Sound.{good_key}
 use Rattle.table.proofs.Good.{kept_at}
-use Rattle.table.proofs.Passes.{all_cong}
 use Rattle.soundness.specs.Inner.{good_coordinate}
 
 all_both : (n : ℕ) (f g : ℕ → Bool) → (all n f && all n g) ≡ all n (λ i. g i && f i)

@@ -1,49 +1,38 @@
--- The entries of an index as a list and by their places: whether one is too high, and how many name a point.
+-- The entries of an index, one after the other: whether one is too high, and how many name a point.
 use mathlib.Core.Path.{◌≡◌, refl, ap, sym, ◌∙◌}
-use mathlib.Core.Bool.{Bool, true, false, not, cond}
-use mathlib.Core.List.{List, [], ◌∷◌}
-use Prim.Native.Nat.{ℕ, zero, suc, ◌+◌}
-use native.Mathlib.Omega.{arith}
+use mathlib.Core.Bool.{Bool, true, false, cond}
+use mathlib.Core.List.{List}
+use Prim.Native.Nat.{ℕ, ◌+◌, ◌<◌}
+use native.Mathlib.Numerals.{add-one}
 use lib.Dec.{eqb, leb}
 use lib.ListN.{length}
-use Rattle.std.specs.List.{fold, list_all, count_by}
 use Rattle.whole.specs.Sum.{all}
+use Rattle.whole.proofs.Tests.{all_stop}
 use Rattle.index.specs.Search.{entry_at}
 use Rattle.index.specs.Indexed.{count, used, sparse}
-use Rattle.table.proofs.Passes.{all_list}
-
--- the first place apart
-count_first : (n : ℕ) (f : ℕ → Bool) → count (suc n) f ≡ cond (f 0) 1 0 + count n (λ i. f (suc i))
-unfolding count
-count_first zero f = omega arith
-count_first (suc n) f = omega (arith, count_first n f)
-
-count_on : (test : ℕ → Bool) (n : ℕ) (l : List ℕ) → fold (λ a x. a + cond (test x) 1 0) n l ≡ n + count (length l) (λ i. test (entry_at l i))
-unfolding count
-count_on test n [] = omega arith
-count_on test n (x ∷ l) =
-    let f : ℕ → Bool = λ i. test (entry_at (x ∷ l) i) in
-    let more : count (suc (length l)) f ≡ cond (test x) 1 0 + count (length l) (λ i. test (entry_at l i)) = count_first (length l) f in
-    omega (arith, count_on test (n + cond (test x) 1 0) l, more)
 
 module _ (l : List ℕ) (m : ℕ) where
-  abbrev pub low : Bool
-  low = list_all (λ e. leb e m) l
+  abbrev pub low : ℕ → Bool
+  low p = leb (entry_at l p) m
 
-  abbrev pub named : ℕ
-  named = count_by (λ e. not (eqb e 0)) l
+  pub none_low : all 0 low ≡ true
+  unfolding all
+  none_low = refl
 
-  low_is : all (length l) (λ p. leb (entry_at l p) m) ≡ low
-  low_is = sym (all_list (λ e. leb e m) l 0)
+  pub none_named : 0 ≡ count 0 (used (entry_at l))
+  unfolding count
+  none_named = refl
+
+  pub named_more : (i : ℕ) {n : ℕ} → n ≡ count i (used (entry_at l)) → n + cond (used (entry_at l) i) 1 0 ≡ count (i + 1) (used (entry_at l))
+  unfolding count
+  named_more i e = ap (λ n. n + cond (used (entry_at l) i) 1 0) e ∙ ap (λ k. count k (used (entry_at l))) (sym (add-one i))
 
   -- an entry that is too high
-  pub sparse_stop : {r : Bool} → r ≡ low → r ≡ false → r ≡ sparse (length l) m (entry_at l)
+  pub sparse_stop : (i : ℕ) → i < length l → low i ≡ false → false ≡ sparse (length l) m (entry_at l)
   unfolding sparse
-  sparse_stop e f = f ∙ sym (rw (low_is, ← e, f) refl)
+  sparse_stop i h e = sym (rw (all_stop (length l) low i h e) refl)
 
   -- none is
-  pub sparse_done : {r : Bool} {n : ℕ} → r ≡ low → r ≡ true → n ≡ named → eqb n m ≡ sparse (length l) m (entry_at l)
+  pub sparse_done : {i n : ℕ} → i ≡ length l → all i low ≡ true → n ≡ count i (used (entry_at l)) → eqb n m ≡ sparse (length l) m (entry_at l)
   unfolding sparse
-  sparse_done e f g =
-      let q : named ≡ count (length l) (used (entry_at l)) = omega (arith, count_on (λ e. not (eqb e 0)) 0 l) in
-      ap (λ (n : ℕ). eqb n m) (g ∙ q) ∙ sym (rw (low_is, ← e, f) refl)
+  sparse_done {i} {n} q e g = let h : all (length l) low ≡ true = rw (← q) e in ap (λ n. eqb n m) (g ∙ ap (λ k. count k (used (entry_at l))) q) ∙ sym (rw h refl)

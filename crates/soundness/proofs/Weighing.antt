@@ -15,12 +15,11 @@ use mir.Facts.{to_z-of_z}
 use Rattle.whole.specs.Size.{Within}
 use Rattle.whole.specs.Sum.{sum, all}
 use Rattle.whole.specs.Lists.{at}
-use Rattle.whole.proofs.Tests.{and_l, and_r, and_i, all_at, all_of, T_true, T_false, T_ext}
+use Rattle.whole.proofs.Tests.{and_l, and_r, and_i, all_at, all_of, T_true, T_false, T_ext, and_true}
 use Rattle.lattice.specs.Limits.{most_value}
 use Rattle.index.specs.Keys.{eq_z, key_at}
 use Rattle.index.proofs.Equality.{eq-eqb, eq_z_eq, eq_z_refl, key_at_length}
 use Rattle.table.specs.Sound.{good, good_key, good_pair, within_plus_minus}
-use Rattle.table.proofs.Passes.{and_true}
 use Rattle.table.proofs.Refusals.{T_of}
 use Rattle.table.proofs.Soundness.{sum_one}
 use Rattle.soundness.specs.Inner.{light_pair, Rows, row_at, light_row, good_rows}

@@ -14,7 +14,7 @@ use crate::places::{finds_all, index_is_sparse};
 use crate::rows::{rows_are_good, total_of};
 use lattice::limits::MOST_READINGS;
 
-// Two passes over the index, one search a key and one pass over the points. The counts come first, then
+// One pass over the index, one search a key and one pass over the points. The counts come first, then
 // the index entries: only then does each name a stretch of the keys, and only then can a search end.
 pub fn is_sound(head: table::Head, keys: &[i32], sums: &[i64], index: &[u16]) -> bool
     requires ranged { Ranged (settings head) }

@@ -10,8 +10,14 @@ ghost use Rattle.soundness.specs.Inner.{is_found, Findable};
 pub fn index_is_sparse(index: &[u16], points: usize) -> bool
     ensures { result ≡ sparse (length index.now) points (entry_at index.now) }
 {
-    index.iter().all(|e| usize::from(*e) <= points)
-        && index.iter().filter(|e| **e != 0).count() == points
+    let mut named = 0;
+    for e in index {
+        if points < usize::from(*e) {
+            return false;
+        }
+        named += usize::from(*e != 0);
+    }
+    named == points
 }
 
 // Whether the search for the key of point i ends at a place that names point i. It is compared in 16

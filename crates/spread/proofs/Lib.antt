@@ -1,4 +1,3 @@
-pub mod Pieces
 pub mod Few
 pub mod Light
 pub mod Sheets

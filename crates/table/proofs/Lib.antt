@@ -1,6 +1,5 @@
 pub mod Worked
 pub mod Lists
-pub mod Passes
 pub mod Rows
 pub mod Store
 pub mod Good

@@ -1,11 +1,10 @@
-// A table of readings: the head, which is passed by value, and what the calls test and clear of a
-// table's memory. What a table means stands in specs/, and the laws of that in proofs/.
+// A table of readings: the head, which is passed by value, and what the calls test of a table's
+// memory. What a table means stands in specs/, and the laws of that in proofs/.
 #![tactic(auto)]
 
 ghost use Rattle.std.specs.Prelude.{◌≡◌};
 ghost use Rattle.table.specs.Heads.{with_counts};
 
-pub mod clear;
 pub mod reading;
 pub mod settings;
 

@@ -8,3 +8,4 @@ pub mod Rounding
 pub mod Tests
 pub mod Sum
 pub mod Lists
+pub mod Pieces

@@ -5,8 +5,6 @@ ghost use Rattle.index.specs.Search.{entry_at, search};
 ghost use Rattle.book.specs.Withdraw.{afresh};
 ghost use Rattle.withdraw.specs.Inner.{Nameable, Renameable};
 
-use table::clear::clear_index;
-
 // Point i takes the empty place at which the search for its key ends.
 fn name_point(keys: &[i32], index: &mut [u16], d: usize, capacity: usize, i: usize)
     requires { Nameable d capacity i keys.now index.old }
@@ -26,7 +24,7 @@ pub fn name_afresh(keys: &[i32], index: &mut [u16], d: usize, capacity: usize, p
     requires { Renameable d capacity points keys.now index.old }
     ensures { index.new ≡ afresh capacity (key_at d keys.now) points }
 {
-    clear_index(index);
+    index.fill(0);
     for i in 0..points {
         name_point(keys, index, d, capacity, i);
     }

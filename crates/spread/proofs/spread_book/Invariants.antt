@@ -3,7 +3,7 @@ use Rattle.std.proofs.Common.{◌≡◌, length}
 use Rattle.table.specs.Heads.{settings}
 use Rattle.spread.specs.Spreading.{Lifts}
 use Rattle.spread.specs.Inner.{shares_to}
-use Rattle.spread.proofs.Pieces.{Pieces}
+use Rattle.whole.proofs.Pieces.{Pieces}
 use Rattle.spread.proofs.spread_book.Given as goal
 
 abbrev pub invariant-loop-entry : goal.invariant-loop-entry

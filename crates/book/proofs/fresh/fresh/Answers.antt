@@ -41,7 +41,7 @@ pub returns : goal.returns
 unfolding fits
 returns c =
     fresh_made (of (goal.at.returns c).Start) c.args.room _ _ _ _ (inside (goal.at.returns c).Else-not-in_range) (passed (all_fit (of (goal.at.returns c).Start) (the (goal.at.returns c).Start)) c.lengths_fit.ensures c.if-not-lengths_fit.false-raw)
-    c.clear_keys.ensures
-    c.clear_sums.ensures
-    c.clear_index.ensures
-    c.clear_keys-2.ensures
+    (c.fill.ensures.after (λ y e. e))
+    (c.fill-2.ensures.after (λ y e. e))
+    (c.fill-3.ensures.after (λ y e. e))
+    (c.fill-4.ensures.after (λ y e. e))

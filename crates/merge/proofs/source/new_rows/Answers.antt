@@ -3,18 +3,18 @@ use Rattle.std.proofs.lemmas.List.{length_push}
 use Rattle.index.specs.Keys.{key_at}
 use Rattle.table.specs.Heads.{settings}
 use Rattle.table.specs.Pour.{one_if_new}
-use Rattle.merge.proofs.Pieces.{Pieces, pieces_none, piece_met, pieces_met}
+use Rattle.whole.proofs.Pieces.{Pieces, pieces_none, piece_met, pieces_met}
 use Rattle.merge.proofs.Rows.{piece_key, piece_size, count_none, count_more, count_all, one_most}
 use Rattle.merge.proofs.source.new_rows.Goals as goal
 use Rattle.merge.proofs.source.new_rows.Goals.{In-Some, After-is_new-count}
 
 pub loop-key-init : goal.loop-key-init
-loop-key-init c = (search rules, tt, pieces_none _ _ _ (search rules) (search rules), count_none _ _ _ _ _, search rules)
+loop-key-init c = (search rules, tt, pieces_none _ _ _ c.requires.stretches.d_least c.requires.stretches.inside (search rules) (search rules), count_none _ _ _ _ _, search rules)
 
 -- the piece that is met is the key of row j
 met : (c : In-Some) → let a = c.args in let d = a.head.d in let j = length c.loop-key.yielded in
     (j < a.source_points) × (c.in-Some.key.now ≡ take d (drop (d * j) a.source_keys.now)) × Pieces d a.source_points a.source_keys.now (j + 1) c.next.new.self
-met c = piece_met _ _ _ c.requires.stretches.d_least c.requires.stretches.inside c.loop-key.invariant.2 c.in-Some.key c.in-Some.is c.next.ensures.steps
+met c = piece_met c.loop-key.invariant.2 c.in-Some.key c.in-Some.is c.next.ensures.steps
 
 pub is_new-count-requires : goal.is_new-count-requires
 is_new-count-requires c =
@@ -42,5 +42,5 @@ loop-key-preserved c =
 
 pub returns : goal.returns
 returns c =
-    let e = pieces_met _ _ _ c.requires.stretches.d_least c.requires.stretches.inside c.loop-key.invariant.2 _ c.in-None.is c.next.ensures.steps in
+    let e = pieces_met c.loop-key.invariant.2 _ c.in-None.is c.next.ensures.steps in
     count_all _ _ _ _ _ _ _ _ e c.loop-key.invariant.3

@@ -4,7 +4,7 @@ use Rattle.index.specs.Keys.{key_at}
 use Rattle.whole.specs.Lists.{tab}
 use Rattle.table.specs.Heads.{settings}
 use Rattle.table.specs.Pour.{news_in}
-use Rattle.merge.proofs.Pieces.{Pieces}
+use Rattle.whole.proofs.Pieces.{Pieces}
 use Rattle.merge.proofs.source.new_rows.Given as goal
 
 abbrev pub invariant-loop-key : goal.invariant-loop-key

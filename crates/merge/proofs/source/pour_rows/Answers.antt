@@ -6,23 +6,22 @@ use mir.Val.{SFits}
 use mir.Facts.{to_z-of_z}
 use Rattle.whole.specs.Lists.{at}
 use Rattle.index.specs.Keys.{key_at}
-use Rattle.merge.proofs.Pieces.{Pieces, pieces_none, piece_met, pairs_met}
+use Rattle.whole.proofs.Pieces.{Pieces, pieces_none, piece_met, pairs_met}
 use Rattle.merge.proofs.Rows.{piece_key, pair_number, row_lent, row_added, poured_none, row_addable, row_turn, ended}
 use Rattle.merge.proofs.source.pour_rows.Goals as goal
 use Rattle.merge.proofs.source.pour_rows.Goals.{In-Some}
 
 pub loop-key-init : goal.loop-key-init
-loop-key-init c = (search rules, tt, pieces_none _ _ _ (search rules) (search rules), pieces_none _ _ _ (search rules) (search rules), poured_none _ _ _ _ _)
+loop-key-init c = (search rules, tt, pieces_none _ _ _ c.requires.stretches.d_least c.requires.stretches.inside (search rules) (search rules), pieces_none _ _ _ (omega arith) c.requires.pairs (search rules) (search rules), poured_none _ _ _ _ _)
 
 -- the pieces that are met are the key and the pair of row j
 key_met : (c : In-Some) → let a = c.args in let d = a.head.d in let j = length c.loop-key.yielded in
     (j < a.source_points) × (c.in-Some.key.now ≡ take d (drop (d * j) a.source_keys.now)) × Pieces d a.source_points a.source_keys.now (j + 1) (zip_first c.next.new.self)
-key_met c = let L = c.requires.stretches in
-    piece_met _ _ _ L.d_least L.inside c.loop-key.invariant.2 c.in-Some.key refl (rw c.in-Some.is at c.next.ensures.steps).0
+key_met c = piece_met c.loop-key.invariant.2 c.in-Some.key refl (rw c.in-Some.is at c.next.ensures.steps).0
 
 pair_met : (c : In-Some) → let a = c.args in let j = length c.loop-key.yielded in
     (j < a.source_points) × (c.in-Some.pair.now ≡ take 2 (drop (2 * j) a.source_sums.now)) × Pieces 2 a.source_points a.source_sums.now (j + 1) (zip_second c.next.new.self)
-pair_met c = piece_met _ _ _ (omega arith) c.requires.pairs c.loop-key.invariant.3 c.in-Some.pair refl (rw c.in-Some.is at c.next.ensures.steps).1
+pair_met c = piece_met c.loop-key.invariant.3 c.in-Some.pair refl (rw c.in-Some.is at c.next.ensures.steps).1
 
 key_is : (c : In-Some) → c.in-Some.key.now ≡ key_at c.args.head.d c.args.source_keys.now (length c.loop-key.yielded)
 key_is c = piece_key _ _ _ _ (key_met c).0 c.requires.stretches.inside (key_met c).1
@@ -51,6 +50,5 @@ loop-key-preserved c =
 
 pub returns : goal.returns
 returns c =
-    let L = c.requires.stretches in
-    let e = pairs_met _ _ _ _ _ L.d_least (omega arith) L.inside c.requires.pairs c.next.new.self c.loop-key.invariant.2 c.loop-key.invariant.3 c.in-None.is c.next.ensures.steps in
+    let e = pairs_met c.next.new.self c.loop-key.invariant.2 c.loop-key.invariant.3 c.in-None.is c.next.ensures.steps in
     ended c.args.head _ _ _ _ _ _ e _ _ _ _ c.loop-key.invariant.4

@@ -4,7 +4,7 @@ use Rattle.std.specs.Iterator.Adapters.{zip_first, zip_second}
 use Rattle.table.specs.Heads.{settings, table_with, table}
 use Rattle.table.specs.Pour.{pour}
 use Rattle.merge.specs.Source.{first_rows}
-use Rattle.merge.proofs.Pieces.{Pieces}
+use Rattle.whole.proofs.Pieces.{Pieces}
 use Rattle.merge.proofs.source.pour_rows.Given as goal
 
 abbrev pub invariant-loop-key : goal.invariant-loop-key

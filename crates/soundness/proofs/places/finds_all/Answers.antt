@@ -4,7 +4,7 @@ use Rattle.std.proofs.lemmas.Iterator.{YieldsList-from_range}
 use Rattle.std.proofs.lemmas.Iterator.Search.{all_from_yields_List}
 use native.Mathlib.Omega.{arith}
 use mathlib.Core.Path.{refl, ◌∙◌}
-use Rattle.table.proofs.Passes.{all_range}
+use Rattle.whole.proofs.Tests.{all_range}
 use Rattle.index.specs.Indexed.{finding}
 use Rattle.soundness.specs.Inner.{is_found}
 use Rattle.soundness.proofs.places.finds_all.Goals as goal

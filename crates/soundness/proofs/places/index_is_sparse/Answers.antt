@@ -1,22 +1,26 @@
--- What the two passes over the index answer.
-use Rattle.std.proofs.Common.{rules, tests}
-use Rattle.std.proofs.iter.runs.Made.{chains}
-use Rattle.std.proofs.lemmas.Iterator.{YieldsList-from_slice}
-use Rattle.std.proofs.lemmas.Iterator.Search.{all_from_yields_List}
-use mathlib.Core.Path.{◌≡◌}
-use lib.Dec.{leb}
-use Rattle.soundness.proofs.Counting.{named, sparse_stop, sparse_done}
+use Rattle.std.proofs.Common.{rules, tests, ◌≡◌, ◌+◌, ◌≤◌, length, true, false, cond, sym, ◌∙◌, arith}
+use Rattle.whole.proofs.Tests.{all_more}
+use Rattle.index.specs.Search.{entry_at}
+use Rattle.index.specs.Indexed.{used}
+use Rattle.soundness.proofs.Counting.{low, none_low, none_named, named_more, sparse_stop, sparse_done}
 use Rattle.soundness.proofs.places.index_is_sparse.Goals as goal
 
-pub returns-then-all : goal.returns-then-all
-returns-then-all c =
-    let l = c.args.index.now in
-    let m = c.args.points in
-    let n : c.count.result ≡ named l m = search (rules, chains) in
-    sparse_done l m (all_from_yields_List (λ e. leb e m) _ _ c.all.result c.all.ensures.ran (YieldsList-from_slice l cc) (λ x b q k. search (rules, tests))) c.if-all.true n
+pub loop-e-init : goal.loop-e-init
+loop-e-init c = (none_low c.args.index.now c.args.points, none_named c.args.index.now c.args.points, search rules)
 
-pub returns-else-all : goal.returns-else-all
-returns-else-all c =
+pub returns-then-points-from : goal.returns-then-points-from
+returns-then-points-from c =
+    let high : low c.args.index.now c.args.points c.loop-e.e-index ≡ false = search (rules, tests) in
+    sparse_stop c.args.index.now c.args.points c.loop-e.e-index (search rules) high
+
+pub loop-e-preserved : goal.loop-e-preserved
+loop-e-preserved c =
+    let i = c.loop-e.e-index in
     let l = c.args.index.now in
-    let m = c.args.points in
-    sparse_stop l m (all_from_yields_List (λ e. leb e m) _ _ c.all.result c.all.ensures.ran (YieldsList-from_slice l cc) (λ x b q k. search (rules, tests))) c.if-all.false
+    let here : low l c.args.points i ≡ true = search (rules, tests) in
+    let one : c.from-named.result ≡ cond (used (entry_at l) i) 1 0 = search (rules, tests) in
+    let few : c.from-named.result ≤ 1 = search (rules, tests) in
+    (all_more i (low l c.args.points) c.loop-e.invariant.0 here, rw one (named_more l c.args.points i c.loop-e.invariant.1), omega (arith, few, c.loop-e.invariant.2))
+
+pub returns : goal.returns
+returns c = let e : c.loop-e.e-index ≡ length c.args.index.now = search rules in sparse_done c.args.index.now c.args.points e c.loop-e.invariant.0 c.loop-e.invariant.1
