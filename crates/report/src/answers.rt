@@ -11,6 +11,7 @@ use crate::MOST_LOG_CAPACITY;
 use crate::lines::put_answer;
 use blur::blur;
 use filter::reply::reply_at;
+use lattice::refusals::number_told;
 use reader::content::{MOST_NUMBERS, content_at};
 use reader::kinds::{Kind, Meaning};
 use reader::read_at;
@@ -37,7 +38,7 @@ fn put_reply(
     match content_at(log, offset, kind, &mut numbers) {
         Meaning::Asks => {
             let reply = reply_at(head, keys, index, sheet, &numbers[..head.d + 1]);
-            put_answer(out, at, reply.value, reply.code)
+            put_answer(out, at, reply.unwrap_or(0), number_told(&reply))
         }
         Meaning::Reads(_) | Meaning::Refuses(_) => at,
     }
