@@ -10,7 +10,7 @@
 // with the report that dyemap prints for it.
 #![tactic(auto)]
 
-ghost use Rattle.std.specs.Prelude.{◌≤◌, ◌≤ℤ◌, pos, length};
+ghost use Rattle.std.specs.Prelude.{◌≤◌};
 
 mod filtered;
 mod logs;
@@ -46,16 +46,16 @@ fn print_points(rt: &impl Print, s: Simplex, n: usize) -> io::Result<()>
 // A position of two to six coordinates: the points around it, or its refusal.
 fn show(rt: &impl Print, x: &[i32], fineness: u32) -> io::Result<()> {
     let n = x.len();
-    if !(2..=6).contains(&n) || !(1..=64).contains(&fineness) {
+    if n < 2 || 6 < n || fineness < 1 || 64 < fineness {
         return Ok(());
     }
     print!(rt; "FINENESS {fineness} POSITION")?;
     print_numbers(rt, x)?;
     println!(rt; "")?;
-    if let Err(refusal) = judge(x) {
-        return println!(rt; "REFUSED {}", refusal.number());
+    match judge(x) {
+        Ok(()) => print_points(rt, enclose(x, n - 1, fineness), n),
+        Err(refusal) => println!(rt; "REFUSED {}", refusal.number()),
     }
-    print_points(rt, enclose(x, n - 1, fineness), n)
 }
 
 fn show_rounded(rt: &impl Print, num: i32, den: i32) -> io::Result<()> {
@@ -67,7 +67,7 @@ fn show_rounded(rt: &impl Print, num: i32, den: i32) -> io::Result<()> {
 }
 
 fn show_remainder(rt: &impl Print, x: i32, m: u32) -> io::Result<()> {
-    if !(1..=1000).contains(&m) {
+    if m < 1 || 1000 < m {
         return Ok(());
     }
     let r = remainder_of(x, m);

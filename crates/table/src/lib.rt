@@ -19,13 +19,6 @@ pub struct Head {
     pub points: usize,
 }
 
-// What a call answers: document 01's number, 0 where it was done, and the head.
-#[derive(Clone, Copy)]
-pub struct Answer {
-    pub number: u8,
-    pub head: Head,
-}
-
 // The head of the same settings with these counts.
 pub fn with_counts(head: Head, readings: usize, points: usize) -> Head
     ensures { result ≡ with_counts head readings points }

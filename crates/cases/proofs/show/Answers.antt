@@ -1,4 +1,4 @@
-use Rattle.std.proofs.Common.{arith, ◌∙◌, sym, length, ◌-◌}
+use Rattle.std.proofs.Common.{arith, sym, length, ◌-◌}
 use Rattle.simplex.proofs.Placing.{placed}
 use Rattle.cases.proofs.show.Goals as goal
 
@@ -6,4 +6,4 @@ use Rattle.cases.proofs.show.Goals as goal
 pub enclose-requires : goal.enclose-requires
 enclose-requires g c =
     let x = c.args.x.now in
-    placed (length x - 1) c.args.fineness x (omega arith) (omega arith) (omega arith) (omega arith) (omega arith) (sym c.judge-number.ensures ∙ c.if-number-ne0.false)
+    placed (length x - 1) c.args.fineness x (omega arith) (omega arith) (omega arith) (omega arith) (omega arith) (sym c.in-Ok.ensures)
