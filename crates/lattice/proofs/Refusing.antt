@@ -1,5 +1,5 @@
 -- What an outcome tells: 0 where nothing is refused, and no refusal has the number 0.
-use Rattle.std.proofs.Common.{◌≡◌, ◌<◌, ◌∙◌, refl, sym, ap, eqb, cond, ℕ, Bool, true, false, Result, Ok, Err, arith}
+use Rattle.std.proofs.Common.{◌≡◌, ◌<◌, ◌∙◌, refl, sym, ap, eqb, cond, ℕ, true, false, Result, Ok, Err, arith}
 use borrow.Author.Tests.{ne_eqb}
 use Rattle.std.specs.Result.{is_err, is_ok}
 use Rattle.lattice.specs.declared.refusals.Refusal.{Refusal}
