@@ -1,5 +1,5 @@
 -- The pieces of w numbers each of a list, one after the other, as a loop over them meets them.
-use Rattle.std.proofs.Common.{◌≡◌, ℕ, zero, suc, ◌+◌, ◌-◌, ◌*◌, ◌/◌, ◌%◌, ◌<◌, ◌≤◌, Bool, true, false, List, [], ◌∷◌, ◌++◌, length, get_or, take, drop, Option, Some, None, Bor, sym, refl, ap, subst, ◌∙◌, append_assoc, append-nil, arith, length-append}
+use Rattle.std.proofs.Common.{◌≡◌, ℕ, zero, suc, ◌+◌, ◌-◌, ◌*◌, ◌/◌, ◌<◌, ◌≤◌, Bool, true, false, List, [], ◌∷◌, ◌++◌, length, get_or, take, drop, Option, Some, None, Bor, sym, refl, ap, subst, ◌∙◌, append_assoc, append-nil, arith, length-append}
 use mathlib.Core.Logic.{inl, inr}
 use native.Mathlib.Nat.{mul-div-le}
 use lib.Seq.{length-take-le, drop-drop, get_or-take, get_or-drop}

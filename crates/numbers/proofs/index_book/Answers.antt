@@ -1,5 +1,5 @@
 -- The numbers of the entries come one after the other, as many as there are entries.
-use Rattle.std.proofs.Common.{rules, ◌≡◌, ◌+◌, ◌*◌, ◌<◌, length, take, drop, pos, subst, ap, ◌∙◌, refl, arith}
+use Rattle.std.proofs.Common.{rules, ◌≡◌, ◌+◌, ◌*◌, ◌<◌, length, take, drop, pos, ◌∙◌, refl, arith}
 use mir.Syntax.{w32}
 use mir.Val.{to_z, of_z, SFits}
 use mir.Facts.{to_z-of_z}
@@ -7,8 +7,8 @@ use Rattle.std.proofs.lemmas.List.{length_push}
 use Rattle.whole.specs.Lists.{at}
 use Rattle.whole.proofs.Pieces.{Pieces, pieces_none, piece_met, pieces_met, piece_first}
 use Rattle.book.specs.Book.{number_at}
-use Rattle.numbers.specs.Indexing.{NumberIndex, Adds}
-use Rattle.numbers.proofs.Apart.{Copied, none_in, met_twice, one_in, all_in}
+use Rattle.numbers.specs.Indexing.{Adds}
+use Rattle.numbers.proofs.Apart.{none_in, met_twice, one_in, all_in}
 use Rattle.numbers.proofs.index_book.Goals as goal
 use Rattle.numbers.proofs.index_book.Goals.{After-add_number, In-Some}
 

@@ -1,4 +1,4 @@
-use Rattle.std.proofs.Common.{rules, tests, ◌≡◌, ◌+◌, ◌≤◌, length, true, false, cond, sym, ◌∙◌, arith}
+use Rattle.std.proofs.Common.{rules, tests, ◌≡◌, ◌≤◌, length, true, false, cond, arith}
 use Rattle.whole.proofs.Tests.{all_more}
 use Rattle.index.specs.Search.{entry_at}
 use Rattle.index.specs.Indexed.{used}
