@@ -3,6 +3,8 @@ ghost use Rattle.std.specs.Prelude.{◌≡◌, ◌≤◌};
 ghost use Rattle.lattice.specs.Limits.{most_C};
 ghost use Rattle.index.specs.Keys.{hash, home};
 
+use whole::words::multiply;
+
 // The number that a hash is multiplied by.
 pub const FACTOR: u32 = 2531011;
 
@@ -13,7 +15,8 @@ fn hash_of(key: &[i32]) -> u32
 {
     let mut h: u32 = 0;
     for c in key {
-        h = h.wrapping_add(c.cast_unsigned()).wrapping_mul(FACTOR);
+        let sum = h.wrapping_add(c.cast_unsigned());
+        h = multiply(sum, FACTOR);
     }
     h
 }
