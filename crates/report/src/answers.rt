@@ -65,6 +65,7 @@ fn put_replies(
         let found = read_at(log, offset);
         let kind = match found.item {
             Ok(Some(kind)) => kind,
+            // Two arms: of one for both a proof would not know at which it is.
             Ok(None) => break,
             Err(_) => break,
         };
