@@ -4,6 +4,8 @@ use mathlib.Core.Bool.{Bool, cond}
 use Prim.Native.Nat.{◌+◌}
 use lib.ListN.{set}
 use Rattle.numbers.specs.Indexing.{place_for}
+use Rattle.lattice.proofs.Refusing.{one_told}
+use Rattle.promises.proofs.Telling.{one_head, one_reply, one_found, one_pair}
 use Rattle.promises.specs.Inner.{InnerOnly}
 
 -- what is left by a test, where the tests are the same
@@ -15,10 +17,10 @@ inner_only = record {
   remainder_of = λ κs a o u p q. λ i. ((p ∙ sym q) i, o.1);
   floor_of = λ κs a o u p q. λ i. ((p ∙ sym q) i, o.1);
   round_fraction = λ κs a o u p q. λ i. ((p ∙ sym q) i, o.1);
-  word_of = λ κs a o u p q. λ i. ((p ∙ sym q) i, o.1);
-  size_of = λ κs a o u p q. λ i. ((p ∙ sym q) i, o.1);
   multiply = λ κs a o u p q. λ i. ((p ∙ sym q) i, o.1);
-  judge = λ κs a o u p q. λ i. ((p ∙ sym q) i, o.1);
+  number = λ κs a o u p q. λ i. ((p ∙ sym q) i, o.1);
+  number_told = λ T L κs a o u p q. λ i. ((p ∙ sym q) i, o.1);
+  judge = λ κs a o u p q. λ i. (one_told o.0 u.0 (p ∙ sym q) i, o.1);
   enclose = λ κs a o u p q. λ i. (record { weights = (p.weights_are ∙ sym q.weights_are) i; coords = (p.coords_are ∙ sym q.coords_are) i }, o.1);
   home_of = λ κs a o u p q. λ i. ((p ∙ sym q) i, o.1);
   same_key = λ κs a o u p q. λ i. ((p ∙ sym q) i, o.1);
@@ -26,10 +28,7 @@ inner_only = record {
   in_range = λ κs a o u p q. λ i. ((p ∙ sym q) i, o.1);
   lengths_fit = λ κs a o u p q. λ i. ((p ∙ sym q) i, o.1);
   with_counts = λ κs a o u p q. λ i. ((p ∙ sym q) i, o.1);
-  clear_keys = λ κs a o u p q. λ i. (o.0, ((p ∙ sym q) i, tt));
-  clear_sums = λ κs a o u p q. λ i. (o.0, ((p ∙ sym q) i, tt));
-  clear_index = λ κs a o u p q. λ i. (o.0, ((p ∙ sym q) i, tt));
-  own_refusal = λ κs a o u p q. λ i. ((p ∙ sym q) i, o.1);
+  own_refusal = λ κs a o u p q. λ i. (one_told o.0 u.0 (p ∙ sym q) i, o.1);
   book_range = λ κs a o u p q. λ i. ((p ∙ sym q) i, o.1);
   book_lengths = λ κs a o u p q. λ i. ((p ∙ sym q) i, o.1);
   write_at = λ κs a o u p q. λ i. (o.0, ((p ∙ sym q) i, (tt, (tt, tt))));
@@ -65,12 +64,12 @@ inner_only = record {
   spread_reading = λ κs a o u p q. λ i. ((p.missing_are ∙ sym q.missing_are) i, (tt, (tt, (tt, ((p.left_is ∙ sym q.left_is) i, (tt, tt))))));
   sums_are_theirs = λ κs a o u p q. λ i. ((p ∙ sym q) i, o.1);
   is_carried = λ κs a o u p q. λ i. ((p ∙ sym q) i, o.1);
-  refusal_of = λ κs a o u p q. λ i. ((p ∙ sym q) i, o.1);
-  take = λ κs a o u p q. λ i. (record { number = (p.number_is ∙ sym q.number_is) i; head = (p.head_is ∙ sym q.head_is) i }, (tt, ((p.keys_are ∙ sym q.keys_are) i, ((p.sums_are ∙ sym q.sums_are) i, ((p.index_are ∙ sym q.index_are) i, (tt, tt))))));
+  refusal_of = λ κs a o u p q. λ i. (one_told o.0 u.0 (p ∙ sym q) i, o.1);
+  take = λ κs a o u p q. λ i. (one_head a.0 o.0 u.0 (p.number_is ∙ sym q.number_is) (p.head_is ∙ sym q.head_is) i, (tt, ((p.keys_are ∙ sym q.keys_are) i, ((p.sums_are ∙ sym q.sums_are) i, ((p.index_are ∙ sym q.index_are) i, (tt, tt))))));
   enter_one = λ κs a o u p q.
       let A = p.0.answers in
       let B = q.0.answers in λ i. (
-        record { number = (A.number_is ∙ sym B.number_is) i; head = (A.head_is ∙ sym B.head_is) i },
+        one_head a.0 o.0 u.0 (A.number_is ∙ sym B.number_is) (A.head_is ∙ sym B.head_is) i,
         (
           tt,
           (
@@ -86,9 +85,9 @@ inner_only = record {
         ),
       );
   fill = λ κs a o u p q. λ i. (o.0, (tt, (tt, (tt, ((p ∙ sym q) i, tt)))));
-  pair_of = λ κs a o u p q. λ i. (record { stored = (p.stored_is ∙ sym q.stored_is) i; mass = (p.mass_is ∙ sym q.mass_is) i; value = (p.value_is ∙ sym q.value_is) i }, o.1);
+  pair_of = λ κs a o u p q. λ i. (one_pair _ _ _ o.0 u.0 p q i, o.1);
   blur = λ κs a o u p q. λ i. (o.0, (tt, (tt, (tt, (tt, ((p.first_is ∙ sym q.first_is) i, ((p.second_is ∙ sym q.second_is) i, tt)))))));
-  reply_at = λ κs a o u p q. λ i. (record { value = (p.value_is ∙ sym q.value_is) i; code = (p.code_is ∙ sym q.code_is) i }, o.1);
+  reply_at = λ κs a o u p q. λ i. (one_reply o.0 u.0 (p.value_is ∙ sym q.value_is) (p.code_is ∙ sym q.code_is) i, o.1);
   reply_all = λ κs a o u p q. λ i. (o.0, (tt, (tt, (tt, (tt, (tt, ((p.values_are ∙ sym q.values_are) i, ((p.codes_are ∙ sym q.codes_are) i, tt))))))));
   row_of = λ κs a o u p q. λ i. ((p ∙ sym q) i, o.1);
   kind_of = λ κs a o u p q. λ i. ((p ∙ sym q) i, o.1);
@@ -99,9 +98,7 @@ inner_only = record {
   of_dimension = λ κs a o u p q. λ i. ((p ∙ sym q) i, o.1);
   settings_of = λ κs a o u p q. λ i. ((p ∙ sym q) i, o.1);
   dimension_of = λ κs a o u p q. λ i. ((p ∙ sym q) i, o.1);
-  found_at = λ κs a o u p q. λ i. ((p ∙ sym q) i, o.1);
-  number_of = λ κs a o u p q. λ i. ((p ∙ sym q) i, o.1);
+  found_at = λ κs a o u p q. λ i. (one_found o.0 u.0 (p ∙ sym q) i, o.1);
   content_at = λ κs a o u p q. λ i. ((p.means_is ∙ sym q.means_is) i, (tt, (tt, (tt, ((p.after_is ∙ sym q.after_is) i, tt)))));
-  number_meant = λ κs a o u p q. λ i. ((p ∙ sym q) i, o.1);
   put_line = λ κs a o u p q. λ i. ((p.next_is ∙ sym q.next_is) i, ((p.after_is ∙ sym q.after_is) i, (tt, (tt, (tt, tt)))));
 }

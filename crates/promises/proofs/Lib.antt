@@ -1,5 +1,6 @@
 pub mod Starred
 pub mod Worked
+pub mod Telling
 pub mod EveryCall
 pub mod Inner
 pub mod Filter

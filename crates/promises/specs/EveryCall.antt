@@ -1,7 +1,7 @@
 -- Demand 1: "Every call answers for every input: it does its work or refuses with document 01's number, and what a refusal hands back and leaves in
 -- lent memory holds to the byte." The contract of each call allows one outcome, which is its answer with the final contents of all lent memory, and no
 -- other; and no call asks anything. That a call ends, in an outcome that its contract allows, the checker answers for.
-use Rattle.std.specs.Prelude.{◌≡◌, List, ℕ, suc, ◌+◌, ◌*◌, ◌≤◌, ◌<◌, ℤ}
+use Rattle.std.specs.Prelude.{◌≡◌, Option, Result, List, ℕ, suc, ◌+◌, ◌*◌, ◌≤◌, ◌<◌, ℤ}
 use base.Logic.{emp}
 use contract.Lifetimes.{Lfts}
 use contract.Monad.{fact}
@@ -10,12 +10,15 @@ use denote.Triple.Entry.{Args, Res}
 use denote.Triple.Clauses.{AtExit}
 use borrow.Fn.World.{World}
 use Rattle.whole.specs.Lists.{at}
+use Rattle.lattice.specs.declared.refusals.Refusal.{Refusal}
 use Rattle.table.specs.Table.{Settings, Table, entry}
 use Rattle.book.specs.Book.{Booked}
 use Rattle.book.specs.Calls.{lent_book, fresh_refusal, after_fresh, enter_refusal, enter, merge_refusal, after_merge, withdraw_refusal, after_withdraw}
 use Rattle.listing.specs.Listing.{list_refusal, after_list}
 use Rattle.filter.specs.Filter.{Lent, filter_refusal, after_filter}
 use Rattle.reader.specs.declared.Reader.{Reader}
+use Rattle.reader.specs.declared.kinds.Kind.{Kind}
+use Rattle.reader.specs.Items.{item_said}
 use Rattle.reader.specs.Reader.{here, moved_on}
 use Rattle.promises.specs.Allowed.{One, Answering}
 use Rattle.book.specs.contracts.fresh.fresh as fresh_call
@@ -55,7 +58,6 @@ use Rattle.reader.proofs.reader_at.Reads as reader_at_call_reads
 use Rattle.reader.specs.contracts.next as next_call
 use Rattle.reader.proofs.next.Reads as next_call_reads
 use Rattle.reader.specs.contracts.read_at as read_at_call
-use Rattle.reader.specs.Items.{Item}
 use Rattle.reader.proofs.read_at.Reads as read_at_call_reads
 
 -- Statement: each call, each function of `export`, which the one of its name for C calls with the same clauses, and each function of the reader asks nothing, and its contract allows one outcome.
@@ -80,12 +82,12 @@ pub record EveryCallOne : Type 0 where
   pub next : Answering next_call.ended next_call_reads.Post next_call_reads.Learnt next_call_reads.Asked
   pub read_at : Answering read_at_call.ended read_at_call_reads.Post read_at_call_reads.Learnt read_at_call_reads.Asked
 
--- What `reader_at` and `next` allow, told here too, apart from how the checker reads it: a reader is made of a log and an offset; it answers the item here, and is moved on.
+-- What `reader_at` and `next` allow, told here too, apart from how the checker reads it: a reader is made of a log and an offset; its answer says the item here, and it is moved on.
 abbrev pub ReaderAtAllows : Bor (List ℕ) → ℕ → Reader → Type 0
 ReaderAtAllows log at r = (r.log ≡ log) × (r.at ≡ at)
 
-abbrev pub NextAllows : Reader → Item × Reader → Type 0
-NextAllows reader o = (o.0 ≡ here reader) × (o.1 ≡ moved_on reader)
+abbrev pub NextAllows : Reader → Result (Option Kind) Refusal × Reader → Type 0
+NextAllows reader o = (item_said o.0 ≡ here reader) × (o.1 ≡ moved_on reader)
 
 -- Statement: what `reader_at` allows is one outcome, and so is what `next` allows.
 pub record ReaderOne : Type 0 where

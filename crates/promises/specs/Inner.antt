@@ -1,4 +1,6 @@
 -- Functions that are `pub` only because another crate of the library calls them; docs/INNER.md lists them with what they ask.
+use denote.RattleType.{RattleType}
+use denote.Param.Laws.{Laws}
 use Rattle.promises.specs.Allowed.{OnlyOutcome}
 use Rattle.whole.specs.contracts as whole_says
 use Rattle.whole.proofs as whole_proofs
@@ -37,14 +39,14 @@ use Rattle.reader.proofs as reader_proofs
 use Rattle.text.specs.contracts as text_says
 use Rattle.text.proofs as text_proofs
 
--- Statement: the contract of each of them allows no second outcome.
+-- Statement: the contract of each of them allows no second outcome; that of a generic function, for each type.
 pub record InnerOnly : Type 0 where
   pub remainder_of : OnlyOutcome whole_says.division.remainder_of.ended whole_proofs.division.remainder_of.Reads.Learnt
   pub floor_of : OnlyOutcome whole_says.division.floor_of.ended whole_proofs.division.floor_of.Reads.Learnt
   pub round_fraction : OnlyOutcome whole_says.round.round_fraction.ended whole_proofs.round.round_fraction.Reads.Learnt
-  pub word_of : OnlyOutcome whole_says.words.word_of.ended whole_proofs.words.word_of.Reads.Learnt
-  pub size_of : OnlyOutcome whole_says.words.size_of.ended whole_proofs.words.size_of.Reads.Learnt
   pub multiply : OnlyOutcome whole_says.words.multiply.ended whole_proofs.words.multiply.Reads.Learnt
+  pub number : OnlyOutcome lattice_says.refusals.Refusal.number.ended lattice_proofs.refusals.Refusal.number.Reads.Learnt
+  pub number_told : (T : RattleType) (L : Laws T) → OnlyOutcome (lattice_says.refusals.number_told.ended T) (lattice_proofs.refusals.number_told.Reads.Learnt T L)
   pub judge : OnlyOutcome lattice_says.position.judge.ended lattice_proofs.position.judge.Reads.Learnt
   pub enclose : OnlyOutcome simplex_says.enclose.ended simplex_proofs.enclose.Reads.Learnt
   pub home_of : OnlyOutcome index_says.home.home_of.ended index_proofs.home.home_of.Reads.Learnt
@@ -53,9 +55,6 @@ pub record InnerOnly : Type 0 where
   pub in_range : OnlyOutcome table_says.settings.in_range.ended table_proofs.settings.in_range.Reads.Learnt
   pub lengths_fit : OnlyOutcome table_says.settings.lengths_fit.ended table_proofs.settings.lengths_fit.Reads.Learnt
   pub with_counts : OnlyOutcome table_says.with_counts.ended table_proofs.with_counts.Reads.Learnt
-  pub clear_keys : OnlyOutcome table_says.clear.clear_keys.ended table_proofs.clear.clear_keys.Reads.Learnt
-  pub clear_sums : OnlyOutcome table_says.clear.clear_sums.ended table_proofs.clear.clear_sums.Reads.Learnt
-  pub clear_index : OnlyOutcome table_says.clear.clear_index.ended table_proofs.clear.clear_index.Reads.Learnt
   pub own_refusal : OnlyOutcome table_says.reading.own_refusal.ended table_proofs.reading.own_refusal.Reads.Learnt
   pub book_range : OnlyOutcome book_says.settings.in_range.ended book_proofs.settings.in_range.Reads.Learnt
   pub book_lengths : OnlyOutcome book_says.settings.lengths_fit.ended book_proofs.settings.lengths_fit.Reads.Learnt
@@ -99,7 +98,5 @@ pub record InnerOnly : Type 0 where
   pub settings_of : OnlyOutcome reader_says.settings.settings_of.ended reader_proofs.settings.settings_of.Reads.Learnt
   pub dimension_of : OnlyOutcome reader_says.settings.dimension_of.ended reader_proofs.settings.dimension_of.Reads.Learnt
   pub found_at : OnlyOutcome reader_says.items.found_at.ended reader_proofs.items.found_at.Reads.Learnt
-  pub number_of : OnlyOutcome reader_says.items.number_of.ended reader_proofs.items.number_of.Reads.Learnt
   pub content_at : OnlyOutcome reader_says.content.content_at.ended reader_proofs.content.content_at.Reads.Learnt
-  pub number_meant : OnlyOutcome reader_says.content.number_meant.ended reader_proofs.content.number_meant.Reads.Learnt
   pub put_line : OnlyOutcome text_says.put_line.ended text_proofs.put_line.Reads.Learnt
