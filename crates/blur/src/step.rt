@@ -16,7 +16,7 @@ fn step_at(d: usize, k: usize, i: usize) -> i32
     1
 }
 
-// A coordinate and one of the step, added or subtracted.
+// A coordinate and one of the step, added or subtracted: a sign, told by one bit down to here.
 fn moved(x: i32, by: i32, plus: bool) -> i32
     requires abs { Abs≤ x farthest_point }
     requires abs_2 { Abs≤ by most_d }

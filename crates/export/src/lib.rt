@@ -1,7 +1,7 @@
-// The calls for C and Rust, over plain numbers and slices. A head passes as its six numbers, by value
-// where a call only reads it and each behind a reference where the call hands a head back. The
-// contracts are the calls' own, of the heads that the six numbers make. `export_c` has these functions
-// as C calls them.
+// The calls for C and Rust, over plain numbers and slices, with the refusals as C is told them: by their
+// numbers. A head passes as its six numbers, by value where a call only reads it and each behind a
+// reference where the call hands a head back. The contracts are the calls' own, of the heads that the six
+// numbers make. `export_c` has these functions as C calls them.
 #![tactic(auto)]
 
 ghost use Rattle.table.specs.Table.{Settings};

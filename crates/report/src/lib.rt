@@ -96,7 +96,8 @@ fn put_log(out: &mut [u8], log: &[u8], d: usize, capacity: usize) -> usize
 }
 
 // Writes the report of a log at the start of a buffer of ROOM bytes or more, and answers how many
-// bytes it is. A shorter buffer is left as it is, and the answer is 0; no report is so short.
+// bytes it is. A shorter buffer is left as it is, and the answer is 0, as C is told it; no report is so
+// short.
 pub fn report(log: &[u8], out: &mut [u8]) -> usize
     ensures { Reports log.now out.old result out.new }
 {
