@@ -22,15 +22,14 @@ use Rattle.book.specs.Heads.{booked, AnswersBook, EntersBook}
 use Rattle.book.proofs.Answering.{fresh_refused, enter_refused, merge_refused}
 use Rattle.listing.specs.Listing.{list_refusal, after_list, Lists}
 use Rattle.filter.specs.Filter.{Lent, filter_refusal, after_filter, Filters}
-use Rattle.reader.specs.Items.{Item, found_at}
 use Rattle.reader.specs.Reader.{moved_on}
-use Rattle.reader.proofs.Saying.{one_said, said_there}
+use Rattle.reader.proofs.Saying.{one_said, said_there, one_found, found_there}
 use Rattle.load.specs.Loading.{load, Loads}
 use Rattle.report.specs.Report.{report, fitting, Reports}
 use Rattle.export.specs.Numbers as numbers
 use Rattle.export.proofs.Making.{none_held}
 use Rattle.promises.specs.Allowed.{Only, One, Ensures, Requires, AnswerAndMemory, Allows, Answering}
-use Rattle.promises.proofs.Telling.{Told, fresh_told, call_told, enter_told, merge_told, withdraw_told, load_told, head_by, head_tells, head_handed, head_given, one_head, one_found}
+use Rattle.promises.proofs.Telling.{Told, fresh_told, call_told, enter_told, merge_told, withdraw_told, load_told, head_by, head_tells, head_handed, head_given, one_head}
 use Rattle.promises.specs.EveryCall.{EveryCallOne, ReaderOne, ReaderSays, RefusedLeavesAll}
 
 -- ---- what a call on a table with its book answers and leaves
@@ -309,9 +308,9 @@ every_call_one = record {
     allowed = (r.1, refl);
     only = λ o u p q. λ i. (one_said o.0 u.0 (p.0 ∙ sym q.0) i, ((p.1 ∙ sym q.1) i, tt));
   }) (λ κs a o p. p) (λ κs a. tt);
-  read_at = answering (λ κs a. let r = said_there a.0.now a.1.0 in let f = found_at a.0.now a.1.0 in record {
-    outcome = (record { item = r.0; next = f.next }, (tt, (tt, tt)));
-    allowed = ap (λ (i : Item). record { item = i; next = f.next }) r.1;
+  read_at = answering (λ κs a. let f = found_there a.0.now a.1.0 in record {
+    outcome = (f.0, (tt, (tt, tt)));
+    allowed = f.1;
     only = λ o u p q. λ i. (one_found o.0 u.0 (p ∙ sym q) i, (tt, (tt, tt)));
   }) (λ κs a o p. p) (λ κs a. tt);
 }

@@ -5,7 +5,8 @@ use Prim.Native.Nat.{◌+◌}
 use lib.ListN.{set}
 use Rattle.numbers.specs.Indexing.{place_for}
 use Rattle.lattice.proofs.Refusing.{one_told}
-use Rattle.promises.proofs.Telling.{one_head, one_reply, one_found, one_pair}
+use Rattle.reader.proofs.Saying.{one_found}
+use Rattle.promises.proofs.Telling.{one_head, one_reply, one_pair}
 use Rattle.promises.specs.Inner.{InnerOnly}
 
 -- what is left by a test, where the tests are the same
@@ -19,7 +20,7 @@ inner_only = record {
   round_fraction = λ κs a o u p q. λ i. ((p ∙ sym q) i, o.1);
   multiply = λ κs a o u p q. λ i. ((p ∙ sym q) i, o.1);
   number = λ κs a o u p q. λ i. ((p ∙ sym q) i, o.1);
-  number_told = λ T L κs a o u p q. λ i. ((p ∙ sym q) i, o.1);
+  number_told = λ T laws κs a o u p q. λ i. ((p ∙ sym q) i, o.1);
   judge = λ κs a o u p q. λ i. (one_told o.0 u.0 (p ∙ sym q) i, o.1);
   enclose = λ κs a o u p q. λ i. (record { weights = (p.weights_are ∙ sym q.weights_are) i; coords = (p.coords_are ∙ sym q.coords_are) i }, o.1);
   home_of = λ κs a o u p q. λ i. ((p ∙ sym q) i, o.1);

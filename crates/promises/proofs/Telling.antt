@@ -21,12 +21,11 @@ use Rattle.filter.specs.Inner.{value_told}
 use Rattle.reader.specs.declared.kinds.Kind.{Kind}
 use Rattle.reader.specs.declared.kinds.Meaning.{Meaning}
 use Rattle.reader.specs.declared.kinds.Meaning.TheVariants.{Reads, Asks, Refuses}
-use Rattle.reader.specs.declared.items.Found.{Found}
 use Rattle.reader.specs.Kinds.{row_of}
-use Rattle.reader.specs.Items.{Item, Of, End, Refused, after_settings, settings_of, item_at, width_of, values_of, number_of, item_said, Finding, found_said}
+use Rattle.reader.specs.Items.{Item, Of, End, Refused, after_settings, settings_of, item_at, width_of, values_of, number_of, item_said}
 use Rattle.reader.specs.Content.{Said, reads, asks, refuses, said_by, said_at}
 use Rattle.reader.specs.Walk.{Walk, then, ends, item_then, walk_from, walk, items}
-use Rattle.reader.proofs.Saying.{Answer, one_said, said_there}
+use Rattle.reader.proofs.Saying.{Answer, said_there}
 use Rattle.load.specs.Loading.{Load, or_else, start_refusal, take_number, take_booked, stop_at, load_walk, started, load}
 
 -- ---- a number that an outcome tells: 0, or that of a refusal
@@ -192,11 +191,6 @@ one_reply (Ok v) (Ok w) f e = ap (λ (x : ℤ). Ok x) f
 one_reply (Ok v) (Err w) f e = absurd (number_not_0 w (sym e))
 one_reply (Err w) (Ok v) f e = absurd (number_not_0 w e)
 one_reply (Err w) (Err v) f e = ap (λ (x : Refusal). Err x) (one_number w v e)
-
-pub one_found : (f g : Found) → found_said f ≡ found_said g → f ≡ g
-one_found f g e =
-    let i = one_said f.item g.item (ap (λ (f : Finding). f.item) e) in
-    let n = ap (λ (f : Finding). f.next) e in λ k. record { item = i k; next = n k }
 
 -- a key has one pair
 pub one_pair : (c : Settings) (t : Table) (y : List ℤ) (r q : Option Pair) → PairFound c t y r → PairFound c t y q → r ≡ q

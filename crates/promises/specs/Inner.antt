@@ -39,14 +39,14 @@ use Rattle.reader.proofs as reader_proofs
 use Rattle.text.specs.contracts as text_says
 use Rattle.text.proofs as text_proofs
 
--- Statement: the contract of each of them allows no second outcome; that of a generic function, for each type.
-pub record InnerOnly : Type 0 where
+-- Statement: the contract of each of them allows no second outcome.
+pub record InnerOnly : Type 2 where
   pub remainder_of : OnlyOutcome whole_says.division.remainder_of.ended whole_proofs.division.remainder_of.Reads.Learnt
   pub floor_of : OnlyOutcome whole_says.division.floor_of.ended whole_proofs.division.floor_of.Reads.Learnt
   pub round_fraction : OnlyOutcome whole_says.round.round_fraction.ended whole_proofs.round.round_fraction.Reads.Learnt
   pub multiply : OnlyOutcome whole_says.words.multiply.ended whole_proofs.words.multiply.Reads.Learnt
   pub number : OnlyOutcome lattice_says.refusals.Refusal.number.ended lattice_proofs.refusals.Refusal.number.Reads.Learnt
-  pub number_told : (T : RattleType) (L : Laws T) → OnlyOutcome (lattice_says.refusals.number_told.ended T) (lattice_proofs.refusals.number_told.Reads.Learnt T L)
+  pub number_told : (T : RattleType) (laws : Laws T) → OnlyOutcome (lattice_says.refusals.number_told.ended T) (lattice_proofs.refusals.number_told.Reads.Learnt T laws)
   pub judge : OnlyOutcome lattice_says.position.judge.ended lattice_proofs.position.judge.Reads.Learnt
   pub enclose : OnlyOutcome simplex_says.enclose.ended simplex_proofs.enclose.Reads.Learnt
   pub home_of : OnlyOutcome index_says.home.home_of.ended index_proofs.home.home_of.Reads.Learnt
