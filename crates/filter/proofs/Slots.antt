@@ -2,7 +2,7 @@
 use mathlib.Core.Path.{◌≡◌, refl, sym, ap, ap₂, subst, ◌∙◌}
 use mathlib.Core.Bool.{Bool, true, false, cond}
 use mathlib.Core.List.{List, [], ◌∷◌, ◌++◌}
-use Prim.Native.Nat.{ℕ, suc, ◌+◌, ◌*◌, ◌-◌, ◌≤◌, ◌<◌}
+use Prim.Native.Nat.{ℕ, suc, ◌+◌, ◌*◌, ◌≤◌, ◌<◌}
 use native.Mathlib.Decide.{ℕ_discrete}
 use native.Mathlib.Numerals.{add-one}
 use native.Mathlib.Omega.{arith}
@@ -141,6 +141,11 @@ slot_over d ws cs k f h = go (ℕ_discrete (get_or ws k 0) 0)
     go (yes e) = rw (eq-eqb (get_or ws k 0) 0 e) (sym (h e))
     go (no e) = rw (ne_eqb (get_or ws k 0) 0 e) (+ℤ_idr (f p))
 
+-- one of weight 0 gives nothing
+pub slot_empty : (c : Settings) (t : Table) (ws : List ℕ) (cs : List ℤ) (k : ℕ) → get_or ws k 0 ≡ 0 → WeighedIs c t (slot c.d ws cs k) (pos 0) (pos 0) (pos 0)
+unfolding slot over
+slot_empty c t ws cs k e = rw (eq-eqb (get_or ws k 0) 0 e) (record { weight_is = refl; mass_is = refl; value_is = refl })
+
 module _ (c : Settings) (t : Table) (ws : List ℕ) (cs : List ℤ) (Q : Weighable c t ws cs) (k : ℕ) (l : k < suc c.d) where
   -- the slots before it, they with it, and it alone weigh at most 384
   light : (heft (collect k (slot c.d ws cs)) ≤ℤ pos most_W) × (heft (collect k (slot c.d ws cs) ++ slot c.d ws cs k) ≤ℤ pos most_W) × (heft (slot c.d ws cs k) ≤ℤ pos most_W)
@@ -150,60 +155,58 @@ module _ (c : Settings) (t : Table) (ws : List ℕ) (cs : List ℤ) (Q : Weighab
   pub weight_small : get_or ws k 0 ≤ most_W
   weight_small = omega (arith, le_in (pos (get_or ws k 0)) (pos most_W) (subst (λ (z : ℤ). z ≤ℤ pos most_W) (slot_over c.d ws cs k (λ p. pos p.1) (λ e. ap pos e)) light.2))
 
-  -- the key, as it is lent
-  abbrev kept : List ℤ
-  kept = take (6 * k + c.d - 6 * k) (drop (6 * k) cs)
+  -- the key of its point
+  module _ {key : List ℤ} (e : key ≡ take c.d (drop (6 * k) cs)) where
+    slot_weighed : (f : List ℤ → ℤ) → weighed_over c.d (slot c.d ws cs k) f ≡ pos (get_or ws k 0) *ℤ f key
+    slot_weighed f = let y = take c.d (tab (suc c.d) (λ i. at cs (6 * k + i))) in
+        slot_over c.d ws cs k (λ p. pos p.1 *ℤ f (take c.d p.0)) (λ e. ap (λ (w : ℕ). pos w *ℤ f y) e ∙ zero-*ℤ (f y))
+        ∙ ap (λ (y : List ℤ). pos (get_or ws k 0) *ℤ f y) (sym (e ∙ kept_part c.d cs k Q.readable.ranged.d_most l Q.coords_size))
 
-  slot_weighed : (f : List ℤ → ℤ) → weighed_over c.d (slot c.d ws cs k) f ≡ pos (get_or ws k 0) *ℤ f kept
-  slot_weighed f = let y = take c.d (tab (suc c.d) (λ i. at cs (6 * k + i))) in
-      slot_over c.d ws cs k (λ p. pos p.1 *ℤ f (take c.d p.0)) (λ e. ap (λ (w : ℕ). pos w *ℤ f y) e ∙ zero-*ℤ (f y))
-      ∙ ap (λ (y : List ℤ). pos (get_or ws k 0) *ℤ f y) (sym (kept_part c.d cs k Q.readable.ranged.d_most l Q.coords_size))
-
-  -- a point that is not stored gives nothing
-  pub slot_absent : {m v : ℤ} → PairIs c t kept false m v → WeighedIs c t (slot c.d ws cs k) (pos 0) (pos 0) (pos 0)
-  slot_absent X = record {
-    weight_is = sym (slot_weighed (ones c t) ∙ ap (λ (b : Bool). pos (get_or ws k 0) *ℤ cond b (pos 1) (pos 0)) (sym X.stored_is) ∙ *ℤ-zero (pos (get_or ws k 0)));
-    mass_is = sym (slot_weighed (masses c t) ∙ ap (λ (n : ℕ). pos (get_or ws k 0) *ℤ (pair_at t.sums n).0) none ∙ *ℤ-zero (pos (get_or ws k 0)));
-    value_is = sym (slot_weighed (values c t) ∙ ap (λ (n : ℕ). pos (get_or ws k 0) *ℤ (pair_at t.sums n).1) none ∙ *ℤ-zero (pos (get_or ws k 0)));
-  }
-    where
-      none : found c t kept ≡ 0
-      none = omega (arith, ltb-false 0 (found c t kept) (sym X.stored_is))
-
-  -- one that is stored gives its weight, and its numbers times the weight: they fit, and are what is read back from their bits
-  module _ {w m v : ℤ} (X : PairIs c t kept true m v) (p : w ≡ pos (get_or ws k 0)) where
-    light_weight : Abs≤ (pos (get_or ws k 0)) most_W
-    light_weight = let l = weight_small in record { abs = omega arith }
-
-    weight_back : W64 w ≡ pos (get_or ws k 0)
-    weight_back = rw p (back64 light_weight (lit< tt))
-
-    -- a number of the pair
-    module _ {z : ℤ} (h : Abs≤ z most_blurred) where
-      product_is : W64 w *ℤ W64 z ≡ pos (get_or ws k 0) *ℤ z
-      product_is = ap₂ ◌*ℤ◌ weight_back (small_back h)
-
-      product_fits : SFits w64 (W64 w *ℤ W64 z)
-      product_fits = rw product_is (small_fits (abs_times (pos (get_or ws k 0)) z {B = most_W} {C = most_blurred} light_weight h (omega arith)))
-
-      product_back : W64 (W64 w *ℤ W64 z) ≡ pos (get_or ws k 0) *ℤ z
-      product_back = to_z-of_z w64 (W64 w *ℤ W64 z) product_fits ∙ product_is
-
-    pub mass_fits : SFits w64 (W64 w *ℤ W64 m)
-    mass_fits = product_fits (pair_small c t Q.readable Q.small X).0
-
-    pub value_fits : SFits w64 (W64 w *ℤ W64 v)
-    value_fits = product_fits (pair_small c t Q.readable Q.small X).1
-
-    pub slot_present : WeighedIs c t (slot c.d ws cs k) (W64 w) (W64 (W64 w *ℤ W64 m)) (W64 (W64 w *ℤ W64 v))
-    slot_present = record {
-      weight_is = weight_back ∙ sym (slot_weighed (ones c t) ∙ ap (λ (b : Bool). pos (get_or ws k 0) *ℤ cond b (pos 1) (pos 0)) (sym X.stored_is) ∙ once (get_or ws k 0));
-      mass_is = product_back (pair_small c t Q.readable Q.small X).0 ∙ ap (λ (z : ℤ). pos (get_or ws k 0) *ℤ z) X.mass_is ∙ sym (slot_weighed (masses c t));
-      value_is = product_back (pair_small c t Q.readable Q.small X).1 ∙ ap (λ (z : ℤ). pos (get_or ws k 0) *ℤ z) X.value_is ∙ sym (slot_weighed (values c t));
+    -- a point that is not stored gives nothing
+    pub slot_absent : {m v : ℤ} → PairIs c t key false m v → WeighedIs c t (slot c.d ws cs k) (pos 0) (pos 0) (pos 0)
+    slot_absent X = record {
+      weight_is = sym (slot_weighed (ones c t) ∙ ap (λ (b : Bool). pos (get_or ws k 0) *ℤ cond b (pos 1) (pos 0)) (sym X.stored_is) ∙ *ℤ-zero (pos (get_or ws k 0)));
+      mass_is = sym (slot_weighed (masses c t) ∙ ap (λ (n : ℕ). pos (get_or ws k 0) *ℤ (pair_at t.sums n).0) none ∙ *ℤ-zero (pos (get_or ws k 0)));
+      value_is = sym (slot_weighed (values c t) ∙ ap (λ (n : ℕ). pos (get_or ws k 0) *ℤ (pair_at t.sums n).1) none ∙ *ℤ-zero (pos (get_or ws k 0)));
     }
       where
-        once : (w : ℕ) → pos w *ℤ pos 1 ≡ pos w
-        once w = let e : w * 1 ≡ w = omega arith in ap pos e
+        none : found c t key ≡ 0
+        none = omega (arith, ltb-false 0 (found c t key) (sym X.stored_is))
+
+    -- one that is stored gives its weight, and its numbers times the weight: they fit, and are what is read back from their bits
+    module _ {w m v : ℤ} (X : PairIs c t key true m v) (p : w ≡ pos (get_or ws k 0)) where
+      light_weight : Abs≤ (pos (get_or ws k 0)) most_W
+      light_weight = let l = weight_small in record { abs = omega arith }
+
+      weight_back : W64 w ≡ pos (get_or ws k 0)
+      weight_back = rw p (back64 light_weight (lit< tt))
+
+      -- a number of the pair
+      module _ {z : ℤ} (h : Abs≤ z most_blurred) where
+        product_is : W64 w *ℤ W64 z ≡ pos (get_or ws k 0) *ℤ z
+        product_is = ap₂ ◌*ℤ◌ weight_back (small_back h)
+
+        product_fits : SFits w64 (W64 w *ℤ W64 z)
+        product_fits = rw product_is (small_fits (abs_times (pos (get_or ws k 0)) z {B = most_W} {C = most_blurred} light_weight h (omega arith)))
+
+        product_back : W64 (W64 w *ℤ W64 z) ≡ pos (get_or ws k 0) *ℤ z
+        product_back = to_z-of_z w64 (W64 w *ℤ W64 z) product_fits ∙ product_is
+
+      pub mass_fits : SFits w64 (W64 w *ℤ W64 m)
+      mass_fits = product_fits (pair_small c t Q.readable Q.small X).0
+
+      pub value_fits : SFits w64 (W64 w *ℤ W64 v)
+      value_fits = product_fits (pair_small c t Q.readable Q.small X).1
+
+      pub slot_present : WeighedIs c t (slot c.d ws cs k) (W64 w) (W64 (W64 w *ℤ W64 m)) (W64 (W64 w *ℤ W64 v))
+      slot_present = record {
+        weight_is = weight_back ∙ sym (slot_weighed (ones c t) ∙ ap (λ (b : Bool). pos (get_or ws k 0) *ℤ cond b (pos 1) (pos 0)) (sym X.stored_is) ∙ once (get_or ws k 0));
+        mass_is = product_back (pair_small c t Q.readable Q.small X).0 ∙ ap (λ (z : ℤ). pos (get_or ws k 0) *ℤ z) X.mass_is ∙ sym (slot_weighed (masses c t));
+        value_is = product_back (pair_small c t Q.readable Q.small X).1 ∙ ap (λ (z : ℤ). pos (get_or ws k 0) *ℤ z) X.value_is ∙ sym (slot_weighed (values c t));
+      }
+        where
+          once : (w : ℕ) → pos w *ℤ pos 1 ≡ pos w
+          once w = let e : w * 1 ≡ w = omega arith in ap pos e
 
 -- ---- one slot more is weighed: the new sums fit, and are what is read back from their bits
 pub slot_more : (c : Settings) (t : Table) (ws : List ℕ) (cs : List ℤ) → Weighable c t ws cs → (k : ℕ) → k < c.d + 1

@@ -10,7 +10,7 @@ ghost use Rattle.blur.specs.Inner.{most_blurred};
 ghost use Rattle.filter.specs.Inner.{WeighedIs, Weighable};
 
 use blur::pair::pair_of;
-use lattice::limits::MOST_COORDS;
+use simplex::Simplex;
 use table::Head;
 
 // The weights of the points that are stored, and weight times mass and weight times value sum, summed
@@ -22,31 +22,33 @@ pub struct Weighed {
     pub value: i64,
 }
 
+const NOTHING: Weighed = Weighed {
+    weight: 0,
+    mass: 0,
+    value: 0,
+};
+
 // What the point of slot k adds: nothing where it has weight 0, and nothing where it is not stored.
 fn weigh_slot(
     head: Head,
     keys: &[i32],
     index: &[u16],
     sheet: &[i64],
-    weights: &[u32],
-    coords: &[i32],
+    simplex: &Simplex,
     k: usize,
 ) -> Weighed
-    requires weighable { Weighable (settings head) (table head keys.now sheet.now index.now) weights.now coords.now }
+    requires weighable { Weighable (settings head) (table head keys.now sheet.now index.now) simplex.now.weights simplex.now.coords }
     requires k_bound { k < suc head.d }
     ensures { let t = table head keys.now sheet.now index.now in
-        WeighedIs (settings head) t (slot head.d weights.now coords.now k) result.weight result.mass result.value }
+        WeighedIs (settings head) t (slot head.d simplex.now.weights simplex.now.coords k) result.weight result.mass result.value }
 {
-    let start = MOST_COORDS * k;
-    let end = start + head.d;
-    let Some(pair) = pair_of(head, keys, index, sheet, &coords[start..end]) else {
-        return Weighed {
-            weight: 0,
-            mass: 0,
-            value: 0,
-        };
+    let Some(key) = simplex.key(head.d, k) else {
+        return NOTHING;
     };
-    let weight = i64::from(weights[k]);
+    let Some(pair) = pair_of(head, keys, index, sheet, key) else {
+        return NOTHING;
+    };
+    let weight = i64::from(simplex.weights[k]);
     Weighed {
         weight,
         mass: weight * pair.mass,
@@ -55,26 +57,15 @@ fn weigh_slot(
 }
 
 // All slots, one after the other.
-pub fn weigh(
-    head: Head,
-    keys: &[i32],
-    index: &[u16],
-    sheet: &[i64],
-    weights: &[u32],
-    coords: &[i32],
-) -> Weighed
-    requires { Weighable (settings head) (table head keys.now sheet.now index.now) weights.now coords.now }
+pub fn weigh(head: Head, keys: &[i32], index: &[u16], sheet: &[i64], simplex: &Simplex) -> Weighed
+    requires { Weighable (settings head) (table head keys.now sheet.now index.now) simplex.now.weights simplex.now.coords }
     ensures { let t = table head keys.now sheet.now index.now in
-        WeighedIs (settings head) t (collect (suc head.d) (slot head.d weights.now coords.now)) result.weight result.mass result.value }
+        WeighedIs (settings head) t (collect (suc head.d) (slot head.d simplex.now.weights simplex.now.coords)) result.weight result.mass result.value }
 {
     let n = head.d + 1;
-    let mut sums = Weighed {
-        weight: 0,
-        mass: 0,
-        value: 0,
-    };
+    let mut sums = NOTHING;
     for k in 0..n {
-        let more = weigh_slot(head, keys, index, sheet, weights, coords, k);
+        let more = weigh_slot(head, keys, index, sheet, simplex, k);
         sums.weight += more.weight;
         sums.mass += more.mass;
         sums.value += more.value;

@@ -1,17 +1,24 @@
 -- The contracts of the functions inside the library: most say what the answer equals, or what is left; the others say it part by part.
-use mathlib.Core.Path.{◌≡◌, sym, ap, ◌∙◌}
-use mathlib.Core.Bool.{Bool, cond}
-use Prim.Native.Nat.{◌+◌}
+use Rattle.std.proofs.Common.{◌≡◌, ◌<◌, ◌+◌, ◌∙◌, ℕ, ℤ, refl, sym, ap, Bool, List, Option, Some, None, MatchOption, Bor, arith}
+use mathlib.Core.Bool.{cond}
 use lib.ListN.{set}
 use Rattle.numbers.specs.Indexing.{place_for}
 use Rattle.lattice.proofs.Refusing.{one_told}
 use Rattle.reader.proofs.Saying.{one_found}
 use Rattle.promises.proofs.Telling.{one_head, one_reply, one_pair}
+use Rattle.promises.specs.Allowed.{behind}
 use Rattle.promises.specs.Inner.{InnerOnly}
 
 -- what is left by a test, where the tests are the same
 by_test : {A : Type 0} {x y : Bool} (a b : A) {l m : A} → x ≡ y → l ≡ cond x a b → m ≡ cond y a b → l ≡ m
 by_test a b e p q = p ∙ ap (λ (x : Bool). cond x a b) e ∙ sym q
+
+-- a slot has one key, or none
+one_key : (w : ℕ) (l : List ℤ) (r s : Option (Bor (List ℤ))) → MatchOption r (w ≡ 0) (λ k. (0 < w) × (k.now ≡ l)) → MatchOption s (w ≡ 0) (λ k. (0 < w) × (k.now ≡ l)) → behind r ≡ behind s
+one_key w l None None p q = refl
+one_key w l None (Some s) p q = let a = q.0 in absurd (omega arith)
+one_key w l (Some r) None p q = let a = p.0 in absurd (omega arith)
+one_key w l (Some r) (Some s) p q = ap (λ (k : List ℤ). Some k) (p.1 ∙ sym q.1)
 
 pub inner_only : InnerOnly
 inner_only = record {
@@ -22,6 +29,7 @@ inner_only = record {
   number = λ κs a o u p q. λ i. ((p ∙ sym q) i, o.1);
   number_told = λ T laws κs a o u p q. λ i. ((p ∙ sym q) i, o.1);
   judge = λ κs a o u p q. λ i. (one_told o.0 u.0 (p ∙ sym q) i, o.1);
+  key = λ κs a o u p q. one_key _ _ o.0 u.0 p q;
   enclose = λ κs a o u p q. λ i. (record { weights = (p.weights_are ∙ sym q.weights_are) i; coords = (p.coords_are ∙ sym q.coords_are) i }, o.1);
   home_of = λ κs a o u p q. λ i. ((p ∙ sym q) i, o.1);
   same_key = λ κs a o u p q. λ i. ((p ∙ sym q) i, o.1);
@@ -61,7 +69,7 @@ inner_only = record {
   store_key = λ κs a o u p q. λ i. (o.0, ((p ∙ sym q) i, (tt, (tt, tt))));
   new_in_slots = λ κs a o u p q. λ i. ((p ∙ sym q) i, o.1);
   times = λ κs a o u p q. λ i. ((p ∙ sym q) i, o.1);
-  pour_shares = λ κs a o u p q. λ i. ((p.points_are ∙ sym q.points_are) i, (tt, ((p.keys_are ∙ sym q.keys_are) i, ((p.sums_are ∙ sym q.sums_are) i, ((p.index_are ∙ sym q.index_are) i, (tt, (tt, (tt, tt))))))));
+  pour_shares = λ κs a o u p q. λ i. ((p.points_are ∙ sym q.points_are) i, (tt, ((p.keys_are ∙ sym q.keys_are) i, ((p.sums_are ∙ sym q.sums_are) i, ((p.index_are ∙ sym q.index_are) i, (tt, (tt, tt)))))));
   spread_reading = λ κs a o u p q. λ i. ((p.missing_are ∙ sym q.missing_are) i, (tt, (tt, (tt, ((p.left_is ∙ sym q.left_is) i, (tt, tt))))));
   sums_are_theirs = λ κs a o u p q. λ i. ((p ∙ sym q) i, o.1);
   is_carried = λ κs a o u p q. λ i. ((p ∙ sym q) i, o.1);

@@ -1,6 +1,7 @@
 -- What it is that a contract allows one outcome, of the contract itself, as the checker reads it off the code that it proves. Of a function `F` of a crate `c`, `Rattle.c.specs.contracts.F` has
 -- its parameters and its result, as `ended`, and `Rattle.c.proofs.F.Reads` its clauses as they are read: `Reads.Post` is what has to be shown for its `ensures`, `Reads.Learnt` what a caller learns from it, and `Reads.Asked` what a caller has to show for its `requires`. For a clause that is a plain fact, as all are here, these are that fact.
-use Rattle.std.specs.Prelude.{◌≡◌}
+use Rattle.std.specs.Prelude.{◌≡◌, List, ℤ, Option, Some, None}
+use Rattle.std.specs.Borrow.{Bor}
 use contract.Lifetimes.{Lfts}
 use denote.Triple.Entry.{Args, Res}
 use denote.Triple.Clauses.{Ended, Lasts, AtExit, at_exit}
@@ -41,3 +42,12 @@ pub record Answering (F : Ended) (shown learnt : Ensures F) (asked : Requires F)
 -- Of a function that asks something of its callers: there is no second outcome.
 abbrev pub OnlyOutcome : (F : Ended) → Ensures F → Type 0
 OnlyOutcome F learnt = (κs : Lfts F.signature.lifetimes) (a : Args F.signature κs) → Only (Allows F learnt κs a)
+
+-- Of a function that hands back a reference into what it is lent: as it is read, wherever it lies, there is no second outcome.
+abbrev pub OnlyRead : (F : Ended) {B : Type 0} → ((κs : Lfts F.signature.lifetimes) → Res F.signature κs → B) → Ensures F → Type 0
+OnlyRead F read learnt = (κs : Lfts F.signature.lifetimes) (a : Args F.signature κs) (o u : AnswerAndMemory F κs a) → Allows F learnt κs a o → Allows F learnt κs a u → read κs o.0 ≡ read κs u.0
+
+-- what is read behind a reference, where there is one
+abbrev pub behind : Option (Bor (List ℤ)) → Option (List ℤ)
+behind None = None
+behind (Some r) = Some r.now

@@ -1,7 +1,7 @@
 -- Functions that are `pub` only because another crate of the library calls them; docs/INNER.md lists them with what they ask.
 use denote.RattleType.{RattleType}
 use denote.Param.Laws.{Laws}
-use Rattle.promises.specs.Allowed.{OnlyOutcome}
+use Rattle.promises.specs.Allowed.{OnlyOutcome, OnlyRead, behind}
 use Rattle.whole.specs.contracts as whole_says
 use Rattle.whole.proofs as whole_proofs
 use Rattle.lattice.specs.contracts as lattice_says
@@ -39,7 +39,7 @@ use Rattle.reader.proofs as reader_proofs
 use Rattle.text.specs.contracts as text_says
 use Rattle.text.proofs as text_proofs
 
--- Statement: the contract of each of them allows no second outcome.
+-- Statement: the contract of each of them allows no second outcome; that of `number_told` for each type, and that of `key`, which hands back a reference, as it is read.
 pub record InnerOnly : Type 2 where
   pub remainder_of : OnlyOutcome whole_says.division.remainder_of.ended whole_proofs.division.remainder_of.Reads.Learnt
   pub floor_of : OnlyOutcome whole_says.division.floor_of.ended whole_proofs.division.floor_of.Reads.Learnt
@@ -48,6 +48,7 @@ pub record InnerOnly : Type 2 where
   pub number : OnlyOutcome lattice_says.refusals.Refusal.number.ended lattice_proofs.refusals.Refusal.number.Reads.Learnt
   pub number_told : (T : RattleType) (laws : Laws T) → OnlyOutcome (lattice_says.refusals.number_told.ended T) (lattice_proofs.refusals.number_told.Reads.Learnt T laws)
   pub judge : OnlyOutcome lattice_says.position.judge.ended lattice_proofs.position.judge.Reads.Learnt
+  pub key : OnlyRead simplex_says.Simplex.key.ended (λ κs r. behind r) simplex_proofs.Simplex.key.Reads.Learnt
   pub enclose : OnlyOutcome simplex_says.enclose.ended simplex_proofs.enclose.Reads.Learnt
   pub home_of : OnlyOutcome index_says.home.home_of.ended index_proofs.home.home_of.Reads.Learnt
   pub same_key : OnlyOutcome index_says.keys.same_key.ended index_proofs.keys.same_key.Reads.Learnt

@@ -2,15 +2,16 @@
 use mathlib.Core.Path.{◌≡◌, refl, sym, ap, ap₂, ◌∙◌}
 use mathlib.Core.Bool.{Bool, true, false, cond}
 use mathlib.Core.List.{List, [], ◌∷◌, ◌++◌, map}
-use Prim.Native.Nat.{ℕ, suc, ◌+◌, ◌*◌, ◌-◌, ◌≤◌, ◌<◌}
+use Prim.Native.Nat.{ℕ, suc, ◌+◌, ◌*◌, ◌≤◌, ◌<◌}
 use native.Mathlib.Numerals.{add-one}
 use native.Mathlib.Omega.{arith}
 use lib.Dec.{eqb}
 use lib.IntN.{ℤ, pos, ◌*ℤ◌}
 use lib.ListN.{length, get_or, take, drop}
+use lib.Seq.{length-take-le}
 use borrow.Author.Tests.{eq-eqb, ne_eqb}
 use Rattle.whole.specs.Lists.{at, tab, collect}
-use Rattle.whole.proofs.Lists.{length_tab, part_tab}
+use Rattle.whole.proofs.Lists.{length_tab}
 use Rattle.index.specs.Keys.{key_at}
 use Rattle.index.specs.Search.{entry_at, search}
 use Rattle.simplex.specs.Slots.{slot}
@@ -31,22 +32,22 @@ unfolding slot_rows slot
 slot_none d ws cs v k e = rw (eq-eqb (get_or ws k 0) 0 e)
 
 -- another has one
-pub slot_one : (d : ℕ) (ws : List ℕ) (cs : List ℤ) (v : ℤ) (k : ℕ) (key : List ℤ) (m s : ℤ) → d ≤ 5 → k < suc d → length cs ≡ 36 → (get_or ws k 0 ≡ 0 → ⊥)
-    → key ≡ take (6 * k + d - 6 * k) (drop (6 * k) cs) → m ≡ pos (get_or ws k 0) → s ≡ pos (get_or ws k 0) *ℤ v
+pub slot_one : (d : ℕ) (ws : List ℕ) (cs : List ℤ) (v : ℤ) (k : ℕ) (key : List ℤ) (m s : ℤ) → d ≤ 5 → k < suc d → length cs ≡ 36 → 0 < get_or ws k 0
+    → key ≡ take d (drop (6 * k) cs) → m ≡ pos (get_or ws k 0) → s ≡ pos (get_or ws k 0) *ℤ v
     → slot_rows d ws cs v k ≡ record { key = key; mass = m; value = s } ∷ []
 unfolding slot_rows slot
 slot_one d ws cs v k key m s h l e w p q r =
-    rw (ne_eqb (get_or ws k 0) 0 w) (λ i. record { key = sym (p ∙ kept_part d cs k h l e) i; mass = sym q i; value = sym r i } ∷ [])
+    rw (ne_eqb (get_or ws k 0) 0 (λ z. omega (arith, w, z))) (λ i. record { key = sym (p ∙ kept_part d cs k h l e) i; mass = sym q i; value = sym r i } ∷ [])
 
 -- and so for its key
 pub slot_no_key : (d : ℕ) (ws : List ℕ) (cs : List ℤ) (k : ℕ) → get_or ws k 0 ≡ 0 → slot_keys d ws cs k ≡ []
 unfolding slot_keys slot
 slot_no_key d ws cs k e = rw (eq-eqb (get_or ws k 0) 0 e)
 
-pub slot_key : (d : ℕ) (ws : List ℕ) (cs : List ℤ) (k : ℕ) → d ≤ 5 → k < suc d → length cs ≡ 36 → (get_or ws k 0 ≡ 0 → ⊥)
-    → slot_keys d ws cs k ≡ take (6 * k + d - 6 * k) (drop (6 * k) cs) ∷ []
+pub slot_key : (d : ℕ) (ws : List ℕ) (cs : List ℤ) (k : ℕ) {key : List ℤ} → d ≤ 5 → k < suc d → length cs ≡ 36 → (0 < get_or ws k 0) × (key ≡ take d (drop (6 * k) cs))
+    → slot_keys d ws cs k ≡ key ∷ []
 unfolding slot_keys slot
-slot_key d ws cs k h l e w = rw (ne_eqb (get_or ws k 0) 0 w) (λ i. sym (kept_part d cs k h l e) i ∷ [])
+slot_key d ws cs k h l e w = rw (ne_eqb (get_or ws k 0) 0 (λ z. omega (arith, w.0, z))) (λ i. sym (w.1 ∙ kept_part d cs k h l e) i ∷ [])
 
 -- ---- pouring one, and one after the other
 pub pour_none : (c : Settings) (t : Table) (rs : List Row) → rs ≡ [] → pour c t rs ≡ t
@@ -119,8 +120,9 @@ module _ (c : Settings) (keys : List ℤ) (index : List ℕ) (d : ℕ) (ws : Lis
   pub count_all : (k n a : ℕ) → k ≡ n → a ≡ news_in c keys index (keys_to d ws cs k) → a ≡ news_in c keys index (keys_to d ws cs n)
   count_all k n a e p = p ∙ ap (λ (j : ℕ). news_in c keys index (keys_to d ws cs j)) e
 
-pub kept_size : (d : ℕ) (cs : List ℤ) (k : ℕ) → d ≤ 5 → k < suc d → length cs ≡ 36 → length (take (6 * k + d - 6 * k) (drop (6 * k) cs)) ≡ d
-kept_size d cs k h l e = ap length (part_tab cs (6 * k) d (pos 0) (omega arith)) ∙ length_tab d (λ i. at cs (6 * k + i))
+pub kept_size : (d : ℕ) (cs : List ℤ) (k : ℕ) {key : List ℤ} → d ≤ 5 → k < suc d → length cs ≡ 36 → key ≡ take d (drop (6 * k) cs) → length key ≡ d
+kept_size d cs k h l e p = let y = tab (suc d) (λ i. at cs (6 * k + i)) in
+    ap length (p ∙ kept_part d cs k h l e) ∙ length-take-le d y (omega (arith, length_tab (suc d) (λ i. at cs (6 * k + i))))
 
 -- all slots are poured
 pub ended : (v v' : ℤ) → v' ≡ v → (h : Head) (t : Table) (ws : List ℕ) (cs : List ℤ) (k n : ℕ) → k ≡ n → (points : ℕ) (keys sums : List ℤ) (index : List ℕ)

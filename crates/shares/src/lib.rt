@@ -8,46 +8,31 @@ ghost use Rattle.table.specs.Pour.{pour, news_in};
 ghost use Rattle.table.specs.Heads.{settings, table_with, table_with_in, table, table_in, HoldsIn};
 ghost use Rattle.shares.specs.Slots.{slot_rows, rows_to, slot_keys, keys_to, SharesToPour, Counting};
 
-use lattice::limits::MOST_COORDS;
 use pour::{add_row, is_new};
+use simplex::Simplex;
 use table::Head;
 
 // How many points more the slot takes: 1 where it has a point that is not stored yet.
-fn new_in_slot(
-    head: Head,
-    keys: &[i32],
-    index: &[u16],
-    weights: &[u32],
-    coords: &[i32],
-    slot: usize,
-) -> usize
-    requires counting { Counting head.d head.capacity keys.now index.now weights.now coords.now }
+fn new_in_slot(head: Head, keys: &[i32], index: &[u16], simplex: &Simplex, slot: usize) -> usize
+    requires counting { Counting head.d head.capacity keys.now index.now simplex.now.weights simplex.now.coords }
     requires slot_bound { slot < suc head.d }
-    ensures { result ≡ news_in (settings head) keys.now index.now (slot_keys head.d weights.now coords.now slot) }
+    ensures { result ≡ news_in (settings head) keys.now index.now (slot_keys head.d simplex.now.weights simplex.now.coords slot) }
 {
-    if weights[slot] == 0 {
+    let Some(key) = simplex.key(head.d, slot) else {
         return 0;
-    }
-    let start = MOST_COORDS * slot;
-    let end = start + head.d;
-    is_new(head, keys, index, &coords[start..end])
+    };
+    is_new(head, keys, index, key)
 }
 
 // Only the points that are new count.
-pub fn new_in_slots(
-    head: Head,
-    keys: &[i32],
-    index: &[u16],
-    weights: &[u32],
-    coords: &[i32],
-) -> usize
-    requires { Counting head.d head.capacity keys.now index.now weights.now coords.now }
-    ensures { result ≡ news_in (settings head) keys.now index.now (keys_to head.d weights.now coords.now (suc head.d)) }
+pub fn new_in_slots(head: Head, keys: &[i32], index: &[u16], simplex: &Simplex) -> usize
+    requires { Counting head.d head.capacity keys.now index.now simplex.now.weights simplex.now.coords }
+    ensures { result ≡ news_in (settings head) keys.now index.now (keys_to head.d simplex.now.weights simplex.now.coords (suc head.d)) }
 {
     let n = head.d + 1;
     let mut count = 0;
     for slot in 0..n {
-        count += new_in_slot(head, keys, index, weights, coords, slot);
+        count += new_in_slot(head, keys, index, simplex, slot);
     }
     count
 }
@@ -68,36 +53,24 @@ fn pour_slot(
     keys: &mut [i32],
     sums: &mut [i64],
     index: &mut [u16],
-    weights: &[u32],
-    coords: &[i32],
+    simplex: &Simplex,
     value: i32,
     slot: usize,
 ) -> usize
     requires fact { let t = table_with head points keys.old sums.old index.old in
-        SharesToPour (settings head) t weights.now coords.now value (slot_rows head.d weights.now coords.now value slot) }
+        SharesToPour (settings head) t simplex.now.weights simplex.now.coords value (slot_rows head.d simplex.now.weights simplex.now.coords value slot) }
     requires slot_bound { slot < suc head.d }
     ensures { let t = table_with_in head points keys sums index in
-        let rs = slot_rows head.d weights.now coords.now value slot in
+        let rs = slot_rows head.d simplex.now.weights simplex.now.coords value slot in
         HoldsIn (pour (settings head) t rs) result keys sums index }
 {
-    let weight = weights[slot];
-    if weight == 0 {
+    let Some(key) = simplex.key(head.d, slot) else {
         return points;
-    }
-    let start = MOST_COORDS * slot;
-    let end = start + head.d;
+    };
+    let weight = simplex.weights[slot];
     let mass = i64::from(weight);
     let sum = times(weight, value);
-    add_row(
-        head,
-        points,
-        keys,
-        sums,
-        index,
-        &coords[start..end],
-        mass,
-        sum,
-    )
+    add_row(head, points, keys, sums, index, key, mass, sum)
 }
 
 // All slots, one after the other; answers how many points are stored then.
@@ -106,22 +79,19 @@ pub fn pour_shares(
     keys: &mut [i32],
     sums: &mut [i64],
     index: &mut [u16],
-    weights: &[u32],
-    coords: &[i32],
+    simplex: &Simplex,
     value: i32,
 ) -> usize
     requires { let t = table head keys.old sums.old index.old in
-        SharesToPour (settings head) t weights.now coords.now value (rows_to head.d weights.now coords.now value (suc head.d)) }
+        SharesToPour (settings head) t simplex.now.weights simplex.now.coords value (rows_to head.d simplex.now.weights simplex.now.coords value (suc head.d)) }
     ensures { let t = table_in head keys sums index in
-        let rs = rows_to head.d weights.now coords.now value (suc head.d) in
+        let rs = rows_to head.d simplex.now.weights simplex.now.coords value (suc head.d) in
         HoldsIn (pour (settings head) t rs) result keys sums index }
 {
     let n = head.d + 1;
     let mut points = head.points;
     for slot in 0..n {
-        points = pour_slot(
-            head, points, keys, sums, index, weights, coords, value, slot,
-        );
+        points = pour_slot(head, points, keys, sums, index, simplex, value, slot);
     }
     points
 }

@@ -183,10 +183,13 @@ unfolding slot_weights
 weights_most {d} {S} {x} E k l = rw (E.weights_are, get_or_tab 6 (λ k. weight_in d S x (point_in d S x k)) k 0 l) (weight_most d S x (point_in d S x k))
 
 -- the coordinates of slot k that are kept, as they are lent
-pub kept_part : (d : ℕ) (cs : List ℤ) (k : ℕ) → d ≤ 5 → k < suc d → length cs ≡ 36 → take (6 * k + d - 6 * k) (drop (6 * k) cs) ≡ take d (tab (suc d) (λ i. at cs (6 * k + i)))
-kept_part d cs k h l e = part_tab cs (6 * k) d (pos 0) (omega arith)
+pub kept_part : (d : ℕ) (cs : List ℤ) (k : ℕ) → d ≤ 5 → k < suc d → length cs ≡ 36 → take d (drop (6 * k) cs) ≡ take d (tab (suc d) (λ i. at cs (6 * k + i)))
+kept_part d cs k h l e = ap (λ (n : ℕ). take n (drop (6 * k) cs)) size ∙ part_tab cs (6 * k) d (pos 0) (omega arith)
     ∙ sym (tab_is d f (take d (tab (suc d) f)) (pos 0) (length-take-le d (tab (suc d) f) (omega (arith, length_tab (suc d) f)))
     (λ i q. get_or-take d (tab (suc d) f) i (pos 0) q ∙ get_or_tab (suc d) f i (pos 0) (omega arith)))
   where
     f : ℕ → ℤ
     f i = at cs (6 * k + i)
+
+    size : d ≡ 6 * k + d - 6 * k
+    size = omega arith

@@ -1,8 +1,8 @@
 // The enclosing simplex of a position: its points of weight above 0, a slot for each remainder.
 #![tactic(auto)]
 
-ghost use Rattle.std.specs.Prelude.{◌≡◌, length};
-ghost use Rattle.lattice.specs.Limits.{most_coords};
+ghost use Rattle.std.specs.Prelude.{◌≡◌, ◌*◌, ◌≤◌, ◌<◌, length, get_or, take, drop, MatchOption};
+ghost use Rattle.lattice.specs.Limits.{most_d, most_coords};
 ghost use Rattle.simplex.specs.Inner.{Span, point_of};
 ghost use Rattle.simplex.specs.Slots.{Placed, Encloses};
 
@@ -22,6 +22,20 @@ pub const SLOT_NUMBERS: usize = MOST_COORDS * MOST_COORDS;
 pub struct Simplex {
     pub weights: [u32; MOST_COORDS],
     pub coords: [i32; SLOT_NUMBERS],
+}
+
+impl Simplex {
+    // The key of the point in a slot: its first d coordinates. A slot of weight 0 has no point.
+    pub fn key(&self, d: usize, slot: usize) -> Option<&[i32]>
+        requires { (d ≤ most_d) × (slot < most_coords) }
+        ensures { MatchOption result (get_or self.now.weights slot 0 ≡ 0) (λ key. (0 < get_or self.now.weights slot 0) × (key.now ≡ take d (drop (most_coords * slot) self.now.coords))) }
+    {
+        if self.weights[slot] == 0 {
+            return None;
+        }
+        let start = MOST_COORDS * slot;
+        Some(&self.coords[start..start + d])
+    }
 }
 
 // The point n * z[i] - total into its slot.

@@ -1,7 +1,7 @@
 -- The slots of a simplex on a sheet, one after the other.
 use mathlib.Core.Path.{◌≡◌}
 use mathlib.Core.List.{List}
-use Prim.Native.Nat.{ℕ, suc, ◌+◌, ◌*◌, ◌-◌, ◌≤◌, ◌<◌}
+use Prim.Native.Nat.{ℕ, suc, ◌+◌, ◌*◌, ◌≤◌, ◌<◌}
 use native.Mathlib.Omega.{arith}
 use lib.IntN.{ℤ, pos, ◌*ℤ◌}
 use lib.ListN.{get_or, take, drop}
@@ -17,15 +17,15 @@ use Rattle.spread.proofs.Light.{light_row_lem, slot_light}
 use Rattle.spread.proofs.Sheets.{lifts_more, after_collected}
 
 -- the row of a slot, as the machine has its numbers
-pub slot_row : {d C : ℕ} {keys : List ℤ} {index : List ℕ} {sheet : List ℤ} {v : ℤ} (ws : List ℕ) (cs : List ℤ) (k : ℕ) (mass value : ℤ)
-    → SlotsToLift d C keys index sheet ws cs v 1 → k < suc d → mass ≡ pos (get_or ws k 0) → value ≡ pos (get_or ws k 0) *ℤ v
-    → RowToLift d C keys index sheet (record { key = take (most_coords * k + d - most_coords * k) (drop (most_coords * k) cs); mass = mass; value = value })
-slot_row {d} {v = v} ws cs k mass value Q l p q = record {
+pub slot_row : {d C : ℕ} {keys : List ℤ} {index : List ℕ} {sheet : List ℤ} {v : ℤ} {key : List ℤ} (ws : List ℕ) (cs : List ℤ) (k : ℕ) (mass value : ℤ)
+    → SlotsToLift d C keys index sheet ws cs v 1 → k < suc d → key ≡ take d (drop (most_coords * k) cs) → mass ≡ pos (get_or ws k 0) → value ≡ pos (get_or ws k 0) *ℤ v
+    → RowToLift d C keys index sheet (record { key = key; mass = mass; value = value })
+slot_row {d} {v = v} {key = key} ws cs k mass value Q l e p q = record {
   rows = Q.rows;
   few = Q.few;
   ready = Q.ready;
-  size = kept_size d cs k Q.d_most l Q.arrays.coords_size;
-  light = rw (p, q) (light_row_lem (take (most_coords * k + d - most_coords * k) (drop (most_coords * k) cs)) (get_or ws k 0) v (Q.arrays.light k) (abs_of v most_value Q.fair));
+  size = kept_size d cs k Q.d_most l Q.arrays.coords_size e;
+  light = rw (p, q) (light_row_lem key (get_or ws k 0) v (Q.arrays.light k) (abs_of v most_value Q.fair));
 }
 
 -- after the slots before k

@@ -32,15 +32,7 @@ pub fn spread_reading(
     let n = d + 1;
     let simplex = enclose(&reading[0..n], d, head.fineness);
     let value = reading[n];
-    lift_shares(
-        head,
-        keys,
-        index,
-        sheet,
-        &simplex.weights,
-        &simplex.coords,
-        value,
-    )
+    lift_shares(head, keys, index, sheet, &simplex, value)
 }
 
 // All readings of the book, one after the other; answers how many of their points are missing. The

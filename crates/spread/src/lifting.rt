@@ -7,9 +7,9 @@ ghost use Rattle.shares.specs.Slots.{slot_rows, rows_to};
 ghost use Rattle.spread.specs.Spreading.{LiftsIn};
 ghost use Rattle.spread.specs.Inner.{RowToLift, SlotsToLift};
 
-use lattice::limits::MOST_COORDS;
 use pour::pair::raise_pair;
 use shares::times;
+use simplex::Simplex;
 use table::Head;
 
 // A row added to the point that has its key. Answers how many points are missing: 1 where none has
@@ -44,24 +44,21 @@ fn lift_slot(
     keys: &[i32],
     index: &[u16],
     sheet: &mut [i64],
-    weights: &[u32],
-    coords: &[i32],
+    simplex: &Simplex,
     value: i32,
     slot: usize,
 ) -> usize
-    requires slots_to_lift { SlotsToLift head.d head.capacity keys.now index.now sheet.old weights.now coords.now value 1 }
+    requires slots_to_lift { SlotsToLift head.d head.capacity keys.now index.now sheet.old simplex.now.weights simplex.now.coords value 1 }
     requires slot_bound { slot < suc head.d }
-    ensures { LiftsIn (settings head) keys index sheet (slot_rows head.d weights.now coords.now value slot) result }
+    ensures { LiftsIn (settings head) keys index sheet (slot_rows head.d simplex.now.weights simplex.now.coords value slot) result }
 {
-    let weight = weights[slot];
-    if weight == 0 {
+    let Some(key) = simplex.key(head.d, slot) else {
         return 0;
-    }
-    let start = MOST_COORDS * slot;
-    let end = start + head.d;
+    };
+    let weight = simplex.weights[slot];
     let mass = i64::from(weight);
     let sum = times(weight, value);
-    lift_row(head, keys, index, sheet, &coords[start..end], mass, sum)
+    lift_row(head, keys, index, sheet, key, mass, sum)
 }
 
 // All slots, one after the other; answers how many of their points are missing.
@@ -70,17 +67,16 @@ pub fn lift_shares(
     keys: &[i32],
     index: &[u16],
     sheet: &mut [i64],
-    weights: &[u32],
-    coords: &[i32],
+    simplex: &Simplex,
     value: i32,
 ) -> usize
-    requires { SlotsToLift head.d head.capacity keys.now index.now sheet.old weights.now coords.now value (suc head.d) }
-    ensures { LiftsIn (settings head) keys index sheet (rows_to head.d weights.now coords.now value (suc head.d)) result }
+    requires { SlotsToLift head.d head.capacity keys.now index.now sheet.old simplex.now.weights simplex.now.coords value (suc head.d) }
+    ensures { LiftsIn (settings head) keys index sheet (rows_to head.d simplex.now.weights simplex.now.coords value (suc head.d)) result }
 {
     let n = head.d + 1;
     let mut missing = 0;
     for slot in 0..n {
-        missing += lift_slot(head, keys, index, sheet, weights, coords, value, slot);
+        missing += lift_slot(head, keys, index, sheet, simplex, value, slot);
     }
     missing
 }

@@ -11,8 +11,8 @@ ghost use Rattle.book.specs.Withdraw.{point_of};
 ghost use Rattle.withdraw.specs.Inner.{counted, unindexed, PointsIn, leave_keys};
 
 use index::keys::same_key;
-use lattice::limits::MOST_COORDS;
 use pour::pair::set_pair;
+use simplex::Simplex;
 use table::Head;
 
 // The point that has the key.
@@ -63,24 +63,20 @@ fn leave_slot(
     points: usize,
     keys: &mut [i32],
     sums: &mut [i64],
-    weights: &[u32],
-    coords: &[i32],
+    simplex: &Simplex,
     slot: usize,
 ) -> usize
     requires points_in { PointsIn (settings head) (unindexed points keys.old sums.old) }
-    requires arrays { Arrays weights.now coords.now }
+    requires arrays { Arrays simplex.now.weights simplex.now.coords }
     requires slot_bound { slot < suc head.d }
     ensures { let t = unindexed points keys.old sums.old in
-        unindexed result keys.new sums.new ≡ leave_keys (settings head) t (slot_keys head.d weights.now coords.now slot) }
+        unindexed result keys.new sums.new ≡ leave_keys (settings head) t (slot_keys head.d simplex.now.weights simplex.now.coords slot) }
 {
-    let weight = weights[slot];
-    if weight == 0 {
-        return points;
-    }
     let d = head.d;
-    let start = MOST_COORDS * slot;
-    let end = start + d;
-    let Some(i) = point_of(keys, d, points, &coords[start..end]) else {
+    let Some(key) = simplex.key(d, slot) else {
+        return points;
+    };
+    let Some(i) = point_of(keys, d, points, key) else {
         return points;
     };
     let mass = sums[2 * i];
@@ -94,22 +90,16 @@ fn leave_slot(
 }
 
 // All slots, in ascending remainder; answers how many points are left.
-pub fn leave_all(
-    head: Head,
-    keys: &mut [i32],
-    sums: &mut [i64],
-    weights: &[u32],
-    coords: &[i32],
-) -> usize
+pub fn leave_all(head: Head, keys: &mut [i32], sums: &mut [i64], simplex: &Simplex) -> usize
     requires points_in { PointsIn (settings head) (unindexed head.points keys.old sums.old) }
-    requires arrays { Arrays weights.now coords.now }
+    requires arrays { Arrays simplex.now.weights simplex.now.coords }
     ensures { let t = unindexed head.points keys.old sums.old in
-        unindexed result keys.new sums.new ≡ leave_keys (settings head) t (keys_to head.d weights.now coords.now (suc head.d)) }
+        unindexed result keys.new sums.new ≡ leave_keys (settings head) t (keys_to head.d simplex.now.weights simplex.now.coords (suc head.d)) }
 {
     let n = head.d + 1;
     let mut points = head.points;
     for slot in 0..n {
-        points = leave_slot(head, points, keys, sums, weights, coords, slot);
+        points = leave_slot(head, points, keys, sums, simplex, slot);
     }
     points
 }

@@ -27,7 +27,7 @@ fn unpour(head: Head, keys: &mut [i32], sums: &mut [i64], index: &[u16], reading
     let d = head.d;
     let n = d + 1;
     let simplex = enclose(&reading[0..n], d, head.fineness);
-    leave_all(head, keys, sums, &simplex.weights, &simplex.coords)
+    leave_all(head, keys, sums, &simplex)
 }
 
 // Entry j leaves table and book; answers how many points are left. The numbers of an entry behind its

@@ -15,12 +15,12 @@ use Rattle.shares.proofs.pour_shares.Goals.{Start}
 
 -- what is asked, at the value as the machine has it
 ready : (s : Start) → let v = to_z w32 (of_z w32 s.args.value) in
-    SharesToPour (settings s.args.head) (table s.args.head s.args.keys.now s.args.sums.now s.args.index.now) s.args.weights.now s.args.coords.now v
-    (rows_to s.args.head.d s.args.weights.now s.args.coords.now v (suc s.args.head.d))
+    SharesToPour (settings s.args.head) (table s.args.head s.args.keys.now s.args.sums.now s.args.index.now) s.args.simplex.now.weights s.args.simplex.now.coords v
+    (rows_to s.args.head.d s.args.simplex.now.weights s.args.simplex.now.coords v (suc s.args.head.d))
 ready s =
     let a = s.args in
     subst
-    (λ (v : ℤ). SharesToPour (settings a.head) (table a.head a.keys.now a.sums.now a.index.now) a.weights.now a.coords.now v (rows_to a.head.d a.weights.now a.coords.now v (suc a.head.d)))
+    (λ (v : ℤ). SharesToPour (settings a.head) (table a.head a.keys.now a.sums.now a.index.now) a.simplex.now.weights a.simplex.now.coords v (rows_to a.head.d a.simplex.now.weights a.simplex.now.coords v (suc a.head.d)))
     (sym (to_z-of_z s.ranges.value)) s.requires
 
 pub loop-slot-init : goal.loop-slot-init

@@ -6,4 +6,4 @@ use Rattle.filter.specs.Inner.{WeighedIs}
 use Rattle.filter.proofs.weigh.weigh.Given as goal
 
 abbrev pub invariant-loop-k : goal.invariant-loop-k
-invariant-loop-k l = WeighedIs (settings l.head) (table l.head l.keys l.sheet l.index) (collect l.k (slot l.head.d l.weights l.coords)) l.sums.weight l.sums.mass l.sums.value
+invariant-loop-k l = WeighedIs (settings l.head) (table l.head l.keys l.sheet l.index) (collect l.k (slot l.head.d l.simplex.weights l.simplex.coords)) l.sums.weight l.sums.mass l.sums.value

@@ -17,10 +17,10 @@ use Rattle.spread.proofs.lifting.lift_shares.Goals as goal
 use Rattle.spread.proofs.lifting.lift_shares.Goals.{After-lift_slot-missing, Start}
 
 -- the value as the machine has it
-abbrev val : Start → ℤ
-val s = to_z w32 (of_z w32 s.args.value)
+abbrev val : ℤ → ℤ
+val v = to_z w32 (of_z w32 v)
 
-ready : (s : Start) → let a = s.args in SlotsToLift a.head.d a.head.capacity a.keys.now a.index.now a.sheet.now a.weights.now a.coords.now (val s) (suc a.head.d)
+ready : (s : Start) → let a = s.args in SlotsToLift a.head.d a.head.capacity a.keys.now a.index.now a.sheet.now a.simplex.now.weights a.simplex.now.coords (val a.value) (suc a.head.d)
 ready s = rw (to_z-of_z s.ranges.value) s.requires
 
 pub loop-slot-init : goal.loop-slot-init
@@ -34,14 +34,14 @@ lift_slot-missing-requires c =
 
 -- what is left after one slot more
 more : (c : After-lift_slot-missing) → let l = c.loop-slot in let a = c.args in
-    Lifts (settings a.head) a.keys.now a.index.now a.sheet.now (rows_to a.head.d a.weights.now a.coords.now (val c.before.before.before.before.before.before.before.before) (l.slot + 1)) (l.missing + c.lift_slot-missing.result) c.lift_slot-missing.new.sheet
+    Lifts (settings a.head) a.keys.now a.index.now a.sheet.now (rows_to a.head.d a.simplex.now.weights a.simplex.now.coords (val a.value) (l.slot + 1)) (l.missing + c.lift_slot-missing.result) c.lift_slot-missing.new.sheet
 more c = let l = c.loop-slot in let a = c.args in
-    slots_more (settings a.head) _ _ a.weights.now a.coords.now (val c.before.before.before.before.before.before.before.before) l.slot l.invariant.3 c.lift_slot-missing.ensures
+    slots_more (settings a.head) _ _ a.simplex.now.weights a.simplex.now.coords (val a.value) l.slot l.invariant.3 c.lift_slot-missing.ensures
 
 pub overflow_add-missing : goal.overflow_add-missing
 overflow_add-missing c =
     let l = c.loop-slot in
-    let f = slots_missing (settings c.args.head) _ _ c.args.weights.now c.args.coords.now (val (goal.at.overflow_add-missing c).Start) (l.slot + 1) (more (goal.at.overflow_add-missing c).After-lift_slot-missing) in
+    let f = slots_missing (settings c.args.head) _ _ c.args.simplex.now.weights c.args.simplex.now.coords (val c.args.value) (l.slot + 1) (more (goal.at.overflow_add-missing c).After-lift_slot-missing) in
     record { fits = omega (arith, l.invariant, c.requires.d_most, c.loop-slot-test.true) }
 
 pub loop-slot-preserved : goal.loop-slot-preserved

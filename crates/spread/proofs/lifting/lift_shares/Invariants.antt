@@ -10,4 +10,4 @@ use Rattle.spread.proofs.lifting.lift_shares.Given as goal
 abbrev pub invariant-loop-slot : goal.invariant-loop-slot
 invariant-loop-slot l =
     (l.slot ≤ l.n) × (l.n ≡ l.head.d + 1) × (length l.sheet ≡ length l.initial.sheet)
-    × Lifts (settings l.head) l.keys l.index l.initial.sheet (rows_to l.head.d l.weights l.coords l.value l.slot) l.missing l.sheet
+    × Lifts (settings l.head) l.keys l.index l.initial.sheet (rows_to l.head.d l.simplex.weights l.simplex.coords l.value l.slot) l.missing l.sheet

@@ -8,4 +8,4 @@ use Rattle.withdraw.proofs.leaving.leave_all.Given as goal
 
 abbrev pub invariant-loop-slot : goal.invariant-loop-slot
 invariant-loop-slot l = (l.slot ≤ l.n) × (l.n ≡ l.head.d + 1)
-    × (unindexed l.points l.keys l.sums ≡ leave_keys (settings l.head) (unindexed l.head.points l.initial.keys l.initial.sums) (keys_to l.head.d l.weights l.coords l.slot))
+    × (unindexed l.points l.keys l.sums ≡ leave_keys (settings l.head) (unindexed l.head.points l.initial.keys l.initial.sums) (keys_to l.head.d l.simplex.weights l.simplex.coords l.slot))
