@@ -18,7 +18,7 @@ use Rattle.lattice.specs.Weight.{W}
 use Rattle.lattice.specs.Points.{spanned, last_of}
 use Rattle.simplex.specs.Slots.{Placed}
 use Rattle.simplex.specs.declared.split.Split.{Split}
-use Rattle.simplex.specs.Inner.{Total, SplitOf, Parts, split_at, coordinate, SplitsOf, point_of, CornerIs, CornerFrom, weights_by, coords_by}
+use Rattle.simplex.specs.Inner.{Total, SplitOf, Near, Parts, split_at, coordinate, SplitsOf, point_of, CornerIs, CornerFrom, weights_by, coords_by}
 use Rattle.simplex.proofs.Splits.{part_of, join_split}
 use Rattle.simplex.proofs.Peak.{peak_cong}
 use Rattle.simplex.proofs.Padding.{padded_cong, length_padded}
@@ -47,6 +47,9 @@ module _ (d S : ℕ) (x : List ℤ) (Q : Placed d S x) where
     some = mul-pos {m = d + 1} (omega arith) Q.S_least;
     most = omega (arith, mul-le-mul a Q.S_most);
   }
+
+  pub near_of : Near ((d + 1) * S) x (length x)
+  near_of = record { total = total_of; few = omega (arith, Q.size, Q.d_most); near = λ i l. Q.near i (omega (arith, Q.size)) }
 
   -- the splits that the corners read, those of the coordinates
   module _ {splits : List Split} (R : SplitsOf ((d + 1) * S) (length x) x splits) where
