@@ -1,7 +1,7 @@
 -- The queries one after the other: where each stands in the list, and what holds when so many are answered.
 use mathlib.Core.Path.{◌≡◌, ap, subst, ◌∙◌}
 use mathlib.Core.List.{List}
-use Prim.Native.Nat.{ℕ, ◌+◌, ◌*◌, ◌-◌, ◌/◌, ◌<◌}
+use Prim.Native.Nat.{ℕ, ◌+◌, ◌*◌, ◌-◌, ◌/◌, ◌≤◌, ◌<◌}
 use native.Mathlib.Nat.{not-suc-le-zero}
 use native.Mathlib.Numerals.{add-one}
 use native.Mathlib.Omega.{arith}
@@ -53,10 +53,10 @@ module _ {c : Settings} {t : Table} {queries values' : List ℤ} {codes : List �
         code_at = place_more (λ j. code_by c t (masses c t) (query_at c.d queries j)) codes 0 j x code_in R.code_is A.code_at;
       }
 
-pub all_answered : {c : Settings} {t : Table} {queries values' : List ℤ} {codes : List ℕ} (n : ℕ) → n ≡ length queries / (c.d + 1) → Answered c t queries n values' codes → RepliesAre c t queries values' codes
+pub all_answered : {c : Settings} {t : Table} {queries values' : List ℤ} {codes : List ℕ} (n : ℕ) → length queries / (c.d + 1) ≤ n → Answered c t queries n values' codes → RepliesAre c t queries values' codes
 all_answered {c} {t} {queries} {values'} {codes} n h A =
     let e = count_is c.d (length queries) in
     record {
-      values_are = tab_is (query_count c.d (length queries)) _ values' (pos 0) A.values_size (λ j l. A.value_at j (omega (arith, e, h)));
-      codes_are = tab_is (query_count c.d (length queries)) _ codes 0 A.codes_size (λ j l. A.code_at j (omega (arith, e, h)));
+      values_are = tab_is (query_count c.d (length queries)) _ values' (pos 0) A.values_size (λ j l. A.value_at j (omega (arith, e)));
+      codes_are = tab_is (query_count c.d (length queries)) _ codes 0 A.codes_size (λ j l. A.code_at j (omega (arith, e)));
     }
