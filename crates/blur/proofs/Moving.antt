@@ -2,12 +2,12 @@
 use mathlib.Core.Path.{◌≡◌, refl, ap₂, ◌∙◌}
 use mathlib.Core.Bool.{Bool, true, false, cond}
 use mathlib.Core.List.{List}
-use Prim.Native.Nat.{ℕ, ◌≤◌, ◌<◌}
+use Prim.Native.Nat.{ℕ, ◌+◌, ◌≤◌, ◌<◌}
 use native.Mathlib.Decide.{ℕ_discrete}
 use native.Mathlib.Omega.{arith}
 use lib.Dec.{lit<}
 use lib.IntN.{ℤ, pos, neg_ℤ, ◌+ℤ◌, ◌-ℤ◌}
-use lib.ListN.{length}
+use lib.ListN.{length, set, length-set}
 use mir.Syntax.{w32}
 use mir.Val.{SFits}
 use mir.Facts.{to_z-of_z}
@@ -16,7 +16,7 @@ use Rattle.whole.specs.Size.{Abs≤}
 use Rattle.whole.specs.Lists.{at, tab}
 use Rattle.whole.proofs.Signed.{zlin, W32}
 use Rattle.whole.proofs.Size.{zabs, back32}
-use Rattle.whole.proofs.Lists.{tab_is}
+use Rattle.whole.proofs.Lists.{tab_is, place_more}
 use Rattle.lattice.specs.Limits.{most_d, farthest_point}
 use Rattle.blur.specs.Blur.{step, plus_step, minus_step}
 use Rattle.blur.specs.Inner.{Movable, neighbour_of}
@@ -65,6 +65,12 @@ module _ (y : List ℤ) (Y : Movable y) (k i : ℕ) (h : i < length y) {s : ℤ}
 pub record Filled (p n : ℕ) (f : ℕ → ℤ) (l : List ℤ) : Type 0 where
   pub places : length l ≡ p
   pub each : (i : ℕ) → i < n → at l i ≡ f i
+
+pub filled_none : {l : List ℤ} (p : ℕ) (f : ℕ → ℤ) → length l ≡ p → Filled p 0 f l
+filled_none p f h = record { places = h; each = λ i q. absurd (omega arith) }
+
+pub filled_more : {l : List ℤ} {v : ℤ} (p n : ℕ) (f : ℕ → ℤ) → n < p → Filled p n f l → v ≡ f n → Filled p (n + 1) f (set l n v)
+filled_more {l} {v} p n f h F e = record { places = length-set l n v ∙ F.places; each = place_more f l (pos 0) n v (omega (arith, F.places)) e F.each }
 
 pub filled_all : {l : List ℤ} (p n : ℕ) (f : ℕ → ℤ) → p ≤ n → Filled p n f l → l ≡ tab p f
 filled_all {l} p n f h F = tab_is p f l (pos 0) F.places (λ i q. F.each i (omega arith))

@@ -68,6 +68,9 @@ module _ (c : Settings) (t : Table) (Q : Passable c t) (i : ℕ) (l : i < t.m) w
       let n : suc i ≤ c.C = omega (arith, Q.readable.indexed.sparse.room) in
       omega (arith, Q.readable.shape.keys, mul-le-mul (le_refl c.d) n)
 
+  pub keys_short : length t.keys ≤ 40960
+  keys_short = omega (arith, Q.readable.shape.keys, mul-le-mul Q.readable.ranged.d_most Q.readable.ranged.C_most)
+
   -- the part of the keys that the code lends
   abbrev part : List ℤ
   part = take (c.d * i + c.d - c.d * i) (drop (c.d * i) t.keys)
@@ -97,6 +100,9 @@ module _ (c : Settings) (t : Table) (Q : Passable c t) (i : ℕ) (l : i < t.m) w
   -- and its new pair, from those of the neighbours
   module _ (k : ℕ) {mass₁ value₁ mass₂ value₂ : ℤ} (P : NumbersAre c t (neighbour_of true c.d k (key c t i)) mass₁ value₁)
       (M : NumbersAre c t (neighbour_of false c.d k (key c t i)) mass₂ value₂) where
+    pub mass_blendable : Abs≤ (W64 (at t.sums (2 * i))) most_blurred × (Abs≤ (W64 mass₁) most_blurred × Abs≤ (W64 mass₂) most_blurred)
+    mass_blendable = blendable (Q.small (2 * i)) (mass_small c t Q P) (mass_small c t Q M)
+
     pub value_blendable : Abs≤ (W64 (at t.sums (2 * i + 1))) most_blurred × (Abs≤ (W64 value₁) most_blurred × Abs≤ (W64 value₂) most_blurred)
     value_blendable = blendable (Q.small (2 * i + 1)) (value_small c t Q P) (value_small c t Q M)
 
@@ -125,3 +131,6 @@ module _ (c : Settings) (t : Table) (Q : Passable c t) (i : ℕ) (l : i < t.m) w
       go : (j : ℕ) → j < i + 1 → Dec (j ≡ i) → NewPair c t k (key c t j) (at (set_pair to i mass value) (2 * j)) (at (set_pair to i mass value) (2 * j + 1))
       go j q (yes h) = rw (h, pair_mass to i mass value (omega (arith, pair_in to S.size)), pair_value to i mass value (pair_in to S.size)) N
       go j q (no h) = rw (pair_else to i mass value (2 * j) (omega arith) (omega arith), pair_else to i mass value (2 * j + 1) (omega arith) (omega arith)) (S.pairs j (omega arith))
+
+pub passed_none : (c : Settings) (t : Table) (k : ℕ) {to : List ℤ} → length to ≡ 2 * c.C → NewPairs c t k 0 to
+passed_none c t k s = record { size = s; pairs = λ i h. absurd (omega arith) }

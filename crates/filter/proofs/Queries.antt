@@ -1,7 +1,8 @@
 -- The queries one after the other: where each stands in the list, and what holds when so many are answered.
 use mathlib.Core.Path.{◌≡◌, ap, subst, ◌∙◌}
 use mathlib.Core.List.{List}
-use Prim.Native.Nat.{ℕ, ◌+◌, ◌*◌, ◌-◌, ◌/◌, ◌<◌}
+use Prim.Native.Nat.{ℕ, ◌+◌, ◌*◌, ◌-◌, ◌/◌, ◌≤◌, ◌<◌}
+use native.Mathlib.Nat.{not-suc-le-zero}
 use native.Mathlib.Numerals.{add-one}
 use native.Mathlib.Omega.{arith}
 use lib.IntN.{ℤ, pos}
@@ -12,7 +13,7 @@ use Rattle.table.specs.Table.{Settings, Table}
 use Rattle.blur.specs.Blur.{masses, values}
 use Rattle.filter.specs.Answer.{code_by, value_by}
 use Rattle.filter.specs.Filter.{query_at, query_count}
-use Rattle.filter.specs.Inner.{ReplyIs, RepliesAre}
+use Rattle.filter.specs.Inner.{ReplyIs, Answerable, RepliesAre}
 
 -- a piece of the list, as the definition tells a query
 pub query_is : (w : ℕ) (l : List ℤ) (j : ℕ) {x : List ℤ} → j < length l / w → x ≡ take w (drop (w * j) l) → x ≡ tab w (λ i. at l (w * j + i))
@@ -30,6 +31,9 @@ pub record Answered (c : Settings) (t : Table) (queries : List ℤ) (n : ℕ) (v
   pub codes_size : length codes ≡ query_count c.d (length queries)
   pub value_at : (j : ℕ) → j < n → at values' j ≡ value_by c t (masses c t) (values c t) (query_at c.d queries j)
   pub code_at : (j : ℕ) → j < n → get_or codes j 0 ≡ code_by c t (masses c t) (query_at c.d queries j)
+
+pub none_answered : {c : Settings} {t : Table} {queries values' : List ℤ} {codes : List ℕ} → Answerable c t queries values' codes → Answered c t queries 0 values' codes
+none_answered A = record { values_size = A.values_size; codes_size = A.codes_size; value_at = λ j l. absurd (not-suc-le-zero l); code_at = λ j l. absurd (not-suc-le-zero l) }
 
 module _ {c : Settings} {t : Table} {queries values' : List ℤ} {codes : List ℕ} (j : ℕ) (h : j < length queries / (c.d + 1)) (A : Answered c t queries j values' codes) where
   pub value_in_lem : j < length values'
@@ -49,10 +53,10 @@ module _ {c : Settings} {t : Table} {queries values' : List ℤ} {codes : List �
         code_at = place_more (λ j. code_by c t (masses c t) (query_at c.d queries j)) codes 0 j x code_in R.code_is A.code_at;
       }
 
-pub all_answered : {c : Settings} {t : Table} {queries values' : List ℤ} {codes : List ℕ} (n : ℕ) → n ≡ length queries / (c.d + 1) → Answered c t queries n values' codes → RepliesAre c t queries values' codes
+pub all_answered : {c : Settings} {t : Table} {queries values' : List ℤ} {codes : List ℕ} (n : ℕ) → length queries / (c.d + 1) ≤ n → Answered c t queries n values' codes → RepliesAre c t queries values' codes
 all_answered {c} {t} {queries} {values'} {codes} n h A =
     let e = count_is c.d (length queries) in
     record {
-      values_are = tab_is (query_count c.d (length queries)) _ values' (pos 0) A.values_size (λ j l. A.value_at j (omega (arith, e, h)));
-      codes_are = tab_is (query_count c.d (length queries)) _ codes 0 A.codes_size (λ j l. A.code_at j (omega (arith, e, h)));
+      values_are = tab_is (query_count c.d (length queries)) _ values' (pos 0) A.values_size (λ j l. A.value_at j (omega (arith, e)));
+      codes_are = tab_is (query_count c.d (length queries)) _ codes 0 A.codes_size (λ j l. A.code_at j (omega (arith, e)));
     }

@@ -77,10 +77,13 @@ module _ (c : Settings) (t : Table) (R : Readable c t) (small : (j : ℕ) → Ab
   sheet_small : (y : List ℤ) → Abs≤ (masses c t y) most_blurred × Abs≤ (values c t y) most_blurred
   sheet_small = held_small c t R most_blurred small
 
-  -- the pair of a point is small
+  -- the pair of a point is small, and is what is read back from its bits
   module _ {y : List ℤ} {stored : Bool} {mass value : ℤ} (X : PairIs c t y stored mass value) where
     pub pair_small : Abs≤ mass most_blurred × Abs≤ value most_blurred
     pair_small = rw (X.mass_is, X.value_is) (sheet_small y)
+
+    pub pair_back : PairIs c t y stored (W64 mass) (W64 value)
+    pair_back = record { stored_is = X.stored_is; mass_is = small_back pair_small.0 ∙ X.mass_is; value_is = small_back pair_small.1 ∙ X.value_is }
 
   -- the sums over points that together weigh at most 384 fit, and are what is read back
   module _ (ps : List (List ℤ × ℕ)) (light : heft ps ≤ℤ pos most_W) {weight mass value : ℤ} (X : WeighedIs c t ps weight mass value) where

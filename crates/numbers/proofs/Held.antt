@@ -20,6 +20,7 @@ use Rattle.index.specs.Search.{entry_at}
 use Rattle.table.proofs.Refusals.{T_of}
 use Rattle.book.specs.Book.{among, numbers_apart}
 use Rattle.book.specs.Numbers.{lowest_from}
+use Rattle.book.proofs.Testing.{among_at, at_among}
 use Rattle.numbers.specs.Indexing.{is_named, place_for, NumberIndex, Adds, IndexesBook, HeldBelow}
 use Rattle.numbers.proofs.Numbering.{is_among, is_new}
 use Rattle.numbers.proofs.Apart.{among_same}
@@ -114,6 +115,10 @@ lowest_below n f = below_from n n f 0 (λ k l. absurd (omega (arith, l)))
 pub below_same : (from n : ℕ) (f g : ℕ → ℤ) → ((j : ℕ) → j < n → f j ≡ g j) → HeldBelow from n f → HeldBelow from n g
 below_same from n f g e h k l = subst T (among_same n f g (pos k) e) (h k l)
 
+-- and with one number more
+pub below_more : (from n : ℕ) (f g : ℕ → ℤ) → ((j : ℕ) → j < n → f j ≡ g j) → HeldBelow from n f → HeldBelow from (n + 1) g
+below_more from n f g e h k l = let (i, m, q) = among_at n f (pos k) (h k l) in at_among (n + 1) g (pos k) i (omega (arith, m)) (sym (e i m) ∙ q)
+
 -- ---- one number more in the list: the others stay, and it is the last
 module _ (n : ℕ) (numbers : List ℤ) (places : List ℕ) (X : NumberIndex n numbers places) {k : ℤ} {numbers' : List ℤ} {places' : List ℕ}
     (A : Adds n numbers places k true numbers' places') where
@@ -122,6 +127,9 @@ module _ (n : ℕ) (numbers : List ℤ) (places : List ℕ) (X : NumberIndex n n
 
   pub added_last : at numbers' n ≡ k
   added_last = ap (λ (s : List ℤ). at s n) A.numbers_are ∙ get_or-set_same numbers n k (pos 0) (omega (arith, X.numbers_size, X.few))
+
+  pub added_below : (from : ℕ) → HeldBelow from n (at numbers) → HeldBelow from (n + 1) (at numbers')
+  added_below from h = below_more from n (at numbers) (at numbers') (λ j l. sym (added_others j l)) h
 
   -- so they are a book's with one entry more
   pub added_copied : (f g : ℕ → ℤ) → ((j : ℕ) → j < n → at numbers j ≡ f j) → ((j : ℕ) → j < n → f j ≡ g j) → k ≡ g n → (j : ℕ) → j < n + 1 → at numbers' j ≡ g j

@@ -23,16 +23,30 @@ use Rattle.load.specs.Loading.{Load, load, Loads}
 use Rattle.table.proofs.Calls.{answered}
 use Rattle.load.proofs.Leaving.{load_offset, load_settings, load_fine}
 use Rattle.report.specs.Report.{most_log_capacity, book_room, head_line, point_lines, answer_lines, refused_line, table_text, loaded_text, settled_text}
-use Rattle.report.specs.Inner.{RefusedRoom, AnswersRoom, TableRoom, LentFor, Settled}
+use Rattle.report.specs.Inner.{counts_line, HeadRoom, RefusedRoom, PointsRoom, AnswersRoom, TableRoom, LentFor, Settled}
 use Rattle.report.proofs.Fitting.{text_in, loaded_fits}
 
 -- ---- a table
+pub head_room : (h : Head) (keys sums : List ℤ) (index l : List ℕ) (size : ℕ) → TableRoom (settings h) (table h keys sums index) l size → HeadRoom h size
+head_room h keys sums index l size R =
+    let t = table h keys sums index in
+    let F = R.printable.fine in
+    record {
+      d_most = F.ranged.d_most;
+      readings_most = F.sound.few;
+      points_most = omega (arith, F.sound.indexed.sparse.room, R.printable.few);
+      space = omega (arith, R.space, length-append (counts_line h) (point_lines (settings h) t ++ answer_lines (settings h) t (walk l after_settings)));
+    }
+
 module _ (c : Settings) (t : Table) (l : List ℕ) {o o₁ : List ℕ} {n₁ : ℕ} (R : TableRoom c t l (length o)) (p : Written o 0 (head_line c t) n₁ o₁) where
   abbrev answers : List ℕ
   answers = answer_lines c t (walk l after_settings)
 
   three : length (head_line c t) + (length (point_lines c t) + length answers) ≤ length o
   three = omega (arith, R.space, length-append (head_line c t) (point_lines c t ++ answers), length-append (point_lines c t) answers)
+
+  pub points_room : PointsRoom c t n₁ (length o₁)
+  points_room = record { printable = R.printable; space = written_room (length (point_lines c t)) p (omega (arith, three)) }
 
   module _ {o₂ : List ℕ} {n₂ : ℕ} (q : Written o₁ n₁ (point_lines c t) n₂ o₂) where
     two : Written o 0 (head_line c t ++ point_lines c t) n₂ o₂
@@ -75,6 +89,9 @@ module _ (l : List ℕ) (b : Booked) {number offset : ℕ} {head : Head} {keys s
       space = rw text_refused at G.space;
     }
 
+    pub refused_written : {o o' : List ℕ} {n : ℕ} → Written o 0 (refused_line number offset) n o' → Written o 0 (text_in l b) n o'
+    refused_written w = rw text_refused w
+
   -- it is taken whole
   module _ (z : number ≡ 0) where
     none : (load l b).number ≡ 0
@@ -95,6 +112,9 @@ module _ (l : List ℕ) (b : Booked) {number offset : ℕ} {head : Head} {keys s
       settings_are = same;
       space = rw text_taken at G.space;
     }
+
+    pub taken_written : {o o' : List ℕ} {n : ℕ} → Written o 0 (table_text (settings head) left l) n o' → Written o 0 (text_in l b) n o'
+    taken_written w = rw text_taken w
 
 -- ---- the program's own memory, all 0: of d·C, 2·C and 2·C places, and of 2,048 entries
 zeros : {A : Type 0} (k n : ℕ) (z : A) → k ≤ n → take k (replicate n z) ≡ replicate k z

@@ -60,6 +60,9 @@ module _ {c : Settings} {t : Table} {l : List ℕ} {a : ℕ} {k : Kind} {at size
     part_of : part ≡ values
     part_of = ap (take (c.d + 1)) p.after_is ∙ take_at values _ (c.d + 1) (omega (arith, asked_size))
 
+    pub query_size : length part ≡ suc c.d
+    query_size = ap length part_of ∙ asked_size
+
     module _ {value : ℤ} {code : ℕ} (r : ReplyIs c t part value code) where
       line_is : answer_line value code ≡ item_text c t l a k
       line_is = ap₂ answer_line r.value_is r.code_is ∙ ap (reply_line c t) part_of ∙ ap (query_text (reply_line c t)) (sym said_is)

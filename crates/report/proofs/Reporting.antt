@@ -1,15 +1,22 @@
 -- The ways that a report ends: a buffer that is too short, a log that is too long, settings that are refused, and a log that is printed.
-use mathlib.Core.Path.{◌≡◌, refl, ap, ◌∙◌}
-use mathlib.Core.List.{List}
+use mathlib.Core.Path.{◌≡◌, refl, sym, ap, ◌∙◌}
+use mathlib.Core.List.{List, []}
 use Prim.Native.Nat.{ℕ, zero, suc, ◌≤◌, ◌<◌}
 use native.Mathlib.Omega.{arith}
 use lib.ListN.{length}
 use borrow.Author.Tests.{le-leb, lt-leb}
 use Rattle.lattice.specs.Refusals.{program_limit}
+use Rattle.whole.proofs.Lists.{splice_none}
 use Rattle.text.specs.Text.{Written}
+use Rattle.report.specs.declared.opening.Opening.{Opening}
 use Rattle.report.specs.Report.{most_bytes, refused_line, settings_refusal, settled_text, report, room, fitting, Reports}
-use Rattle.report.specs.Inner.{RefusedRoom}
+use Rattle.report.specs.Inner.{RefusedRoom, Opens, Settled}
 use Rattle.report.proofs.Fitting.{refused_fits}
+
+pub too_short : (l buffer : List ℕ) → length buffer < room → Reports l buffer 0 buffer
+too_short l buffer h =
+    let e : fitting (length buffer) (report l) ≡ [] = rw (lt-leb room (length buffer) h) in
+    record { bytes_are = ap length (sym e); after_is = rw e (splice_none buffer 0) }
 
 -- a buffer that suffices
 written : {text : List ℕ} (l : List ℕ) {buffer after : List ℕ} {bytes : ℕ} → room ≤ length buffer → report l ≡ text
@@ -39,6 +46,14 @@ module _ (l : List ℕ) (k : length l ≤ most_bytes) {x : ℕ} (n : x ≡ setti
   pub not_settled : {buffer after : List ℕ} {bytes : ℕ} → room ≤ length buffer → (x ≡ 0 → ⊥)
       → Written buffer 0 (refused_line x 0) bytes after → Reports l buffer bytes after
   not_settled h z w = written l h (text_is ∙ refused_text l x z) w
+
+  pub settled : {o : Opening} → Opens l o → {size : ℕ} → room ≤ size → Settled l o.d o.capacity size
+  settled O h = record {
+    taken = record { short = k; ranged = O.ranged; few = O.few };
+    d_is = O.d_is;
+    capacity_is = O.capacity_is;
+    space = h;
+  }
 
   pub reported : {buffer after : List ℕ} {bytes : ℕ} → room ≤ length buffer → x ≡ 0
       → Written buffer 0 (settled_text 0 l) bytes after → Reports l buffer bytes after

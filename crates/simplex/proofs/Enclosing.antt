@@ -18,7 +18,7 @@ use Rattle.lattice.specs.Weight.{W}
 use Rattle.lattice.specs.Points.{spanned, last_of}
 use Rattle.simplex.specs.Slots.{Placed}
 use Rattle.simplex.specs.declared.split.Split.{Split}
-use Rattle.simplex.specs.Inner.{Total, SplitOf, Parts, split_at, coordinate, SplitsOf, point_of, CornerIs, CornerFrom, weights_by, coords_by}
+use Rattle.simplex.specs.Inner.{Total, SplitOf, Near, Parts, split_at, coordinate, SplitsOf, point_of, CornerIs, CornerFrom, weights_by, coords_by}
 use Rattle.simplex.proofs.Splits.{part_of, join_split}
 use Rattle.simplex.proofs.Peak.{peak_cong}
 use Rattle.simplex.proofs.Padding.{padded_cong, length_padded}
@@ -48,6 +48,9 @@ module _ (d S : ℕ) (x : List ℤ) (Q : Placed d S x) where
     most = omega (arith, mul-le-mul a Q.S_most);
   }
 
+  pub near_of : Near ((d + 1) * S) x (length x)
+  near_of = record { total = total_of; few = omega (arith, Q.size, Q.d_most); near = λ i l. Q.near i (omega (arith, Q.size)) }
+
   -- the splits that the corners read, those of the coordinates
   module _ {splits : List Split} (R : SplitsOf ((d + 1) * S) (length x) x splits) where
     abbrev read : List Split
@@ -69,9 +72,14 @@ module _ (d S : ℕ) (x : List ℤ) (Q : Placed d S x) where
     own : (i : ℕ) → i < d + 1 → coordinate ((d + 1) * S) read i ≡ at x i
     own i l = let s = each i l in rw (s.floor_is, s.rest_is) (join_split ((d + 1) * S) (at x i) total_of.some)
 
-    pub corner_is : (j : ℕ) → j < d + 1 → {z : List ℤ} {t : ℤ} {slot weight : ℕ} → CornerFrom ((d + 1) * S) (length read) (coordinate ((d + 1) * S) read) j z t slot weight
+    pub corner_is : (j : ℕ) → j < d + 1 → {point : List ℤ} {slot weight : ℕ} → CornerIs ((d + 1) * S) (d + 1) (coordinate ((d + 1) * S) read) j point slot weight
+        → CornerIs (W d S) (suc d) (at x) j point slot weight
+    corner_is j q C = rw (← (add-one d)) (corner_cong ((d + 1) * S) (d + 1) (coordinate ((d + 1) * S) read) (at x) j own q C)
+
+    -- the corner that is made of them
+    pub corner_made_is : (j : ℕ) → j < d + 1 → {z : List ℤ} {t : ℤ} {slot weight : ℕ} → CornerFrom ((d + 1) * S) (length read) (coordinate ((d + 1) * S) read) j z t slot weight
         → CornerIs (W d S) (suc d) (at x) j (point_of (d + 1) z t) slot weight
-    corner_is j q C = rw (← (add-one d)) (corner_cong ((d + 1) * S) (d + 1) (coordinate ((d + 1) * S) read) (at x) j own q (rw read_long at C.corner))
+    corner_made_is j q C = corner_is j q (rw read_long at C.corner)
 
 -- ---- the slots before the first corner
 pub no_weights : (d S : ℕ) (x : List ℤ) → replicate 6 0 ≡ weights_by d S x 0

@@ -9,11 +9,11 @@ use Rattle.whole.specs.Size.{P, N, Abs≤}
 use Rattle.whole.specs.Floor.{floor, remainder}
 use Rattle.whole.proofs.Parts.{zin, zout}
 use Rattle.whole.proofs.Linear.{on, difs, ints}
-use Rattle.whole.proofs.Signed.{eq_plus, W32}
-use Rattle.whole.proofs.Size.{back32}
+use Rattle.whole.proofs.Signed.{eq_plus, zlin, W32}
+use Rattle.whole.proofs.Size.{zabs, back32}
 use Rattle.whole.proofs.Floor.{div_rem, remainder_lt, floor_is, remainder_is, floor_p, floor_n}
 use Rattle.lattice.specs.Limits.{farthest}
-use Rattle.simplex.specs.Inner.{SplitOf, joined, Part}
+use Rattle.simplex.specs.Inner.{Total, SplitOf, joined, Part}
 
 pub split_is : (w : ℕ) (z q r : ℤ) → z ≡ pos w *ℤ q +ℤ r → pos 0 ≤ℤ r → r <ℤ pos w → SplitOf w z q r
 split_is w z q (pos n) e l h = let k : n < w = omega (arith, zin) in record { floor_is = sym (floor_is z q w n k e); rest_is = ap pos (sym (remainder_is z q w n k e)) }
@@ -51,6 +51,22 @@ minus_high w q r q' r' A B h = split_is w (joined w q r -ℤ joined w q' r') (q 
 
     high : (w : ℕ) (r r' : ℤ) → r <ℤ pos w → pos 0 ≤ℤ r' → (r -ℤ r') <ℤ pos w
     high w = on _ λ a b. on _ λ c d. simp difs (omega ints)
+
+-- a split as the machine has it
+pub floor_back : {w : ℕ} {q r : ℤ} → Part w q r → W32 q ≡ q
+floor_back p = back32 p.near (lit< tt)
+
+pub rest_small : {w : ℕ} {q r : ℤ} → Part w q r → Total w → Abs≤ r 384
+rest_small {w} {q} {r} p t = zabs (search zlin depth 14) (omega (arith, zin))
+
+pub rest_back : {w : ℕ} {q r : ℤ} → Part w q r → Total w → W32 r ≡ r
+rest_back p t = back32 (rest_small p t) (lit< tt)
+
+pub part_back : {w : ℕ} {q r : ℤ} → Part w q r → Total w → Part w (W32 q) (W32 r)
+part_back p t = rw (floor_back p, rest_back p t) p
+
+pub split_cong : {w : ℕ} {a a' b b' c c' d d' q r : ℤ} → a ≡ a' → b ≡ b' → c ≡ c' → d ≡ d' → SplitOf w (joined w a b -ℤ joined w c d) q r → SplitOf w (joined w a' b' -ℤ joined w c' d') q r
+split_cong e f g h S = rw (← e, ← f, ← g, ← h) S
 
 -- what keeps W times a floor, and what it leaves, in 32 bits
 pub record Product (w : ℕ) (x q : ℤ) : Type 0 where

@@ -2,6 +2,7 @@
 use mathlib.Core.Path.{◌≡◌, sym, ap, subst, ◌∙◌}
 use mathlib.Core.List.{List}
 use Prim.Native.Nat.{ℕ, suc, ◌+◌, ◌*◌, ◌<◌, ◌≤◌}
+use native.Mathlib.Nat.{mul-le-mul_left}
 use native.Mathlib.Omega.{arith}
 use lib.IntN.{ℤ}
 use lib.ListN.{length}
@@ -10,6 +11,14 @@ use Rattle.index.specs.Search.{entry_at, search, Searchable}
 use Rattle.index.proofs.Equality.{key_at_length, stretch_fits}
 use Rattle.index.proofs.Finding.{search_lt}
 use Rattle.soundness.specs.Inner.{Findable, place_of}
+
+-- of m points, each of those before one of them
+pub findable_to : (d C m i : ℕ) (keys : List ℤ) (index : List ℕ) → Findable d C m keys index → i < m → Findable d C (suc i) keys index
+findable_to d C m i keys index F l = record {
+  searchable = F.searchable;
+  few = omega (arith, F.few);
+  stretches = let h : d * suc i ≤ d * m = mul-le-mul_left d l in omega (arith, F.stretches, h);
+}
 
 module _ (d C i : ℕ) (keys : List ℤ) (index : List ℕ) (F : Findable d C (suc i) keys index) where
   pub room : d * i + d ≤ length keys

@@ -3,15 +3,15 @@ use mathlib.Core.Path.{◌≡◌, refl, sym, ap, subst, ◌∙◌}
 use mathlib.Core.Logic.{◌≢◌}
 use mathlib.Core.Bool.{Bool, true, false, cond}
 use mathlib.Core.List.{List, [], ◌∷◌, ◌++◌}
-use Prim.Native.Nat.{ℕ, zero, suc, ◌+◌, ◌*◌, ◌-◌, ◌<◌}
+use Prim.Native.Nat.{ℕ, zero, suc, ◌+◌, ◌*◌, ◌-◌, ◌≤◌, ◌<◌}
 use native.Mathlib.Numerals.{add-one}
 use native.Mathlib.Omega.{arith}
 use lib.IntN.{ℤ, pos}
-use lib.ListN.{replicate, length-replicate}
+use lib.ListN.{length, replicate, length-replicate}
 use Rattle.whole.specs.Lists.{at, splice, collect}
 use Rattle.whole.proofs.Tests.{T_true, T_false}
 use Rattle.index.specs.Keys.{eq_z, key_at}
-use Rattle.index.proofs.Equality.{eq_z_eq, eq_z_refl}
+use Rattle.index.proofs.Equality.{eq_z_eq, eq_z_refl, stretch_fits}
 use Rattle.table.specs.Table.{Settings, Table, key, mass}
 use Rattle.table.specs.Sound.{Shape}
 use Rattle.table.specs.Pour.{set_pair}
@@ -57,6 +57,9 @@ module _ (c : Settings) (m : ℕ) (keys sums : List ℤ) (k : List ℤ) (ks : Li
     goes z p q = (λ i. unindexed (m - 1) (p i) (q i)) ∙ sym (leave_one f ∙ ap (λ (b : Bool). cond b (vacated c here i) here) (T_true (eq_z (mass here i) (pos 0)) (rw z (eq_z_refl (pos 0)))))
 
 -- ---- what is left has its lengths, and room
+pub last_fits : (c : Settings) (t : Table) → PointsIn c t → 0 < t.m → c.d * (t.m - 1) + c.d ≤ length t.keys
+last_fits c t P h = stretch_fits c.d (t.m - 1) c.C (length t.keys) (omega (arith, P.room)) (omega (arith, P.keys_size))
+
 vacated_in : (c : Settings) (t : Table) (i : ℕ) → i < t.m → PointsIn c t → PointsIn c (vacated c t i)
 unfolding vacated
 vacated_in c t i l P = record { d_most = P.d_most; C_most = P.C_most; room = omega (arith, P.room); keys_size = S.keys; sums_size = S.sums }
@@ -97,3 +100,6 @@ module _ (c : Settings) (t : Table) (d : ℕ) (ws : List ℕ) (cs : List ℤ) wh
       where
         more : keys_to d ws cs (j + 1) ≡ keys_to d ws cs j ++ slot_keys d ws cs j
         more = rw add-one
+
+    pub slots_all : (n : ℕ) → j ≡ n → unindexed p keys sums ≡ leave_keys c t (keys_to d ws cs n)
+    slots_all n q = e ∙ ap (λ (i : ℕ). leave_keys c t (keys_to d ws cs i)) q

@@ -7,10 +7,10 @@ use native.Mathlib.Numerals.{add-one}
 use lib.IntN.{ℤ}
 use lib.ListN.{length, set, replicate}
 use Rattle.index.specs.Keys.{key_at}
-use Rattle.index.specs.Search.{entry_at, search}
+use Rattle.index.specs.Search.{entry_at, search, Searchable}
 use Rattle.index.proofs.Equality.{key_at_length, stretch_fits}
 use Rattle.index.proofs.Steps.{searchable}
-use Rattle.pour.proofs.Seeking.{place_is, place_read}
+use Rattle.pour.proofs.Seeking.{can_search, place_is, place_read}
 use Rattle.book.specs.Withdraw.{afresh}
 use Rattle.book.proofs.Afresh.{afresh_length, afresh_indexed}
 use Rattle.withdraw.specs.Inner.{Nameable, Renameable}
@@ -23,6 +23,9 @@ module _ (d C i : ℕ) (keys : List ℤ) (index : List ℕ) (N : Nameable d C i 
   module _ {k : List ℤ} (e : k ≡ key_at d keys i) where
     size : length k ≡ d
     size = ap length e ∙ key_at_length d keys i
+
+    pub to_search : Searchable (length k) C keys index
+    to_search = can_search d C keys index k N.searchable size
 
     module _ {r : ℕ} (f : r ≡ search C (key_at (length k) keys) (entry_at index) k) where
       pub named_at : r ≡ search C (key_at d keys) (entry_at index) (key_at d keys i)
@@ -52,3 +55,7 @@ module _ (d C m : ℕ) (keys : List ℤ) (index : List ℕ) (R : Renameable d C 
   pub named_more : {index' index'' : List ℕ} (i : ℕ) → index' ≡ named i → index'' ≡ set index' (search C (key_at d keys) (entry_at index') (key_at d keys i)) (suc i) → index'' ≡ named (i + 1)
   unfolding afresh
   named_more i e f = f ∙ ap (λ (l : List ℕ). set l (search C (key_at d keys) (entry_at l) (key_at d keys i)) (suc i)) e ∙ ap named (sym (add-one i))
+
+  -- it has as many places as the one before
+  pub named_length : {index' : List ℕ} (i : ℕ) → index' ≡ named i → length index' ≡ length index
+  named_length i e = ap length e ∙ afresh_length C R.C_least (key_at d keys) i ∙ sym R.places

@@ -17,7 +17,7 @@ use Rattle.book.specs.Withdraw.{lowered, leave, afresh, withdrawn, closed, witho
 use Rattle.book.specs.Heads.{HoldsBook}
 use Rattle.book.specs.Theorems.{FineBook}
 use Rattle.book.proofs.Testing.{entry_lawful, entry_stored}
-use Rattle.book.proofs.Entries.{entry_inside, part_reading, part_size}
+use Rattle.book.proofs.Entries.{entry_inside, entries_few, part_reading, part_size}
 use Rattle.book.proofs.Keeping.{withdraw_keeps}
 use Rattle.book.proofs.Fine.{book_long}
 use Rattle.withdraw.specs.Inner.{Renameable, Lowerable}
@@ -28,6 +28,9 @@ module _ (c : Settings) (b : Booked) (B : FineBook c b) (j : ℕ) (l : j < b.tab
 
   pub entry_in : (c.d + 3) * j + (c.d + 3) ≤ length b.book
   entry_in = omega (arith, book_long c b B, entry_inside c.d t.n j l)
+
+  pub entry_low : (c.d + 3) * j + (c.d + 3) ≤ (most_d + 3) * most_readings
+  entry_low = omega (arith, entry_inside c.d t.n j l, entries_few c.d t.n B.fine.ranged.d_most B.fine.sound.few)
 
   pub can_close : (c.d ≤ most_d) × (t.n ≤ most_readings) × (j < t.n) × ((c.d + 3) * t.n ≤ length b.book)
   can_close = (B.fine.ranged.d_most, B.fine.sound.few, l, book_long c b B)

@@ -28,4 +28,4 @@ loop-j-preserved c =
     (search rules, tt, s.2 ∙ ap (λ k. k + 1) i.2, m.2, one_more_lem _ m.0 i.4 (query_is _ _ _ m.0 m.1) (rw (to_z-of_z f, v, c.number_told.ensures) c.reply_at-reply.ensures))
 
 pub returns : goal.returns
-returns c = all_answered _ (pieces_met c.loop-j.invariant.3 c.next.new.self.iter refl c.in-None.ensures.steps.0) c.loop-j.invariant.4
+returns c = all_answered _ (omega (arith, pieces_met c.loop-j.invariant.3 c.next.new.self.iter refl c.in-None.ensures.steps.0)) c.loop-j.invariant.4
