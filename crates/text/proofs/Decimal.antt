@@ -31,7 +31,7 @@ pub digits_more : (most n : ℕ) → 10 ≤ n → digits_in (suc most) n ≡ dig
 unfolding digits_in
 digits_more most n h = rw (le-ltb n 10 h)
 
--- ---- digits counted, one for each tenth part that is taken
+-- ---- digits counted
 pub digits_few : (most n : ℕ) → length (digits_in most n) ≤ most
 unfolding digits_in
 digits_few zero n = omega arith
@@ -55,6 +55,14 @@ one_digit n h = rw (digits_last 19 n h) refl
 
 pub one_more : (n : ℕ) → 10 ≤ n → n < 2 ^ 64 → length (digits n) ≡ length (digits (n / 10)) + 1
 one_more n l h = rw (digits_more 19 n l, length-append, enough 18 (n / 10) (omega arith)) refl
+
+pub two_digits : (n : ℕ) → 10 ≤ n → n < 100 → length (digits n) ≡ 2
+two_digits n l h = omega (arith, one_more n l (omega arith), one_digit (n / 10) (omega arith))
+
+pub two_more : (n : ℕ) → 100 ≤ n → n < 2 ^ 64 → length (digits n) ≡ length (digits (n / 100)) + 2
+two_more n l h =
+    let hundredth : n / 10 / 10 ≡ n / 100 = omega arith in
+    omega (arith, one_more n (omega arith) h, one_more (n / 10) (omega arith) (omega arith), ap (λ (m : ℕ). length (digits m)) hundredth)
 
 -- ---- so many digits, and the last of them after the others
 exact : (most n : ℕ) → digits_in (length (digits_in most n)) n ≡ digits_in most n

@@ -15,17 +15,17 @@ fn put(out: &mut [u8], at: usize, bytes: &[u8]) -> usize
     end
 }
 
-// How many digits a size has.
+// How many digits a size has: counted by twos, since each step is a division.
 fn count_digits(n: u64) -> usize
     ensures { result ≡ length (digits n) }
 {
     let mut count = 1;
     let mut rest = n;
-    while 10 <= rest {
-        rest /= 10;
-        count += 1;
+    while 100 <= rest {
+        rest /= 100;
+        count += 2;
     }
-    count
+    if rest < 10 { count } else { count + 1 }
 }
 
 // A size in decimal: its digits are counted, and written from the last one back.

@@ -1,4 +1,4 @@
--- A digit counted for each tenth part taken, and one more for what is left. Assumes nothing.
+-- What is counted is one more than the digits that were taken off. Assumes nothing.
 use mathlib.Core.Path.{◌≡◌}
 use Prim.Native.Nat.{◌+◌}
 use lib.ListN.{length}
