@@ -1,5 +1,7 @@
 pub mod KeyOrder
 pub mod Rising
+pub mod Merging
+pub mod Halves
 pub mod Listings
-pub mod Sorting
+pub mod Filling
 pub mod Answers

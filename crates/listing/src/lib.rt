@@ -7,8 +7,10 @@ ghost use Rattle.table.specs.Heads.{settings};
 ghost use Rattle.book.specs.Heads.{booked};
 ghost use Rattle.listing.specs.Listing.{ListsIn};
 
+mod compare;
 pub mod fill;
-mod order;
+mod merge;
+mod sort;
 
 use crate::fill::fill;
 use carried::refusal_of;

@@ -9,7 +9,7 @@ use lib.IntN.{ℤ, pos, negsuc}
 use lib.ListN.{length, length-append}
 use Rattle.text.specs.Text.{zero_digit, space, line_feed, digits_in, decimal, spaced, line}
 use Rattle.text.specs.Theorems.{read_from, ReadBack, LineFits}
-use Rattle.text.proofs.Decimal.{digits_last, digits_more}
+use Rattle.text.proofs.Decimal.{digits_last, digits_more, digits_few}
 
 -- ---- digits read back
 read_more : (n : ℕ) (l : List ℕ) (b : ℕ) → read_from n (l ++ (b ∷ [])) ≡ 10 * read_from n l + (b - zero_digit)
@@ -34,15 +34,6 @@ pub read_back : ReadBack
 read_back n h = read_digits 20 n h
 
 -- ---- the length of a line
-digits_few : (most n : ℕ) → length (digits_in most n) ≤ most
-unfolding digits_in
-digits_few zero n = omega arith
-digits_few (suc most) n = go (dec_lt n 10) (digits_few most (n / 10))
-  where
-    go : Dec (n < 10) → length (digits_in most (n / 10)) ≤ most → length (digits_in (suc most) n) ≤ suc most
-    go (yes k) h = rw (digits_last most n k) (omega arith)
-    go (no k) h = rw (digits_more most n (omega arith), length-append) (omega arith)
-
 decimal_few : (z : ℤ) → length (decimal z) ≤ 21
 unfolding decimal
 decimal_few (pos n) = omega (arith, digits_few 20 n)

@@ -15,18 +15,31 @@ fn put(out: &mut [u8], at: usize, bytes: &[u8]) -> usize
     end
 }
 
-// A size in decimal: the digits of its tenth, where there is one, and then its last digit.
+// How many digits a size has: counted by twos, since each step is a division.
+fn count_digits(n: u64) -> usize
+    ensures { result ≡ length (digits n) }
+{
+    let mut count = 1;
+    let mut rest = n;
+    while 100 <= rest {
+        rest /= 100;
+        count += 2;
+    }
+    if rest < 10 { count } else { count + 1 }
+}
+
+// A size in decimal: its digits are counted, and written from the last one back.
 fn put_digits(out: &mut [u8], at: usize, n: u64) -> usize
     requires { at + length (digits n) ≤ length out.old }
     ensures { Written out.old at (digits n) result out.new }
 {
-    let last = if n < 10 {
-        at
-    } else {
-        put_digits(out, at, n / 10)
-    };
-    out[last] = b'0' + (n % 10) as u8;
-    last + 1
+    let end = at + count_digits(n);
+    let mut left = n;
+    for next in (at..end).rev() {
+        out[next] = b'0' + (left % 10) as u8;
+        left /= 10;
+    }
+    end
 }
 
 fn put_decimal(out: &mut [u8], at: usize, number: i64) -> usize
