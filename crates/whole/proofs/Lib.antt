@@ -9,3 +9,4 @@ pub mod Tests
 pub mod Sum
 pub mod Lists
 pub mod Pieces
+pub mod Word
