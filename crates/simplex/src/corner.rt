@@ -24,7 +24,7 @@ pub struct Corner {
 }
 
 // One difference a turn: place i from place j. The floors are left in z, where the point is made from
-// them: an array handed back would be copied.
+// them: an array handed back would be copied. A loop by number: a split stands in two arrays.
 fn steps_from(splits: &Splits, n: usize, w: u32, j: usize, z: &mut [i32; MOST_COORDS]) -> Steps
     requires parts { Parts w n splits.now.floors splits.now.rests }
     requires j_lt_n { j < n }
