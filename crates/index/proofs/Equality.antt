@@ -1,12 +1,9 @@
--- Equal keys: what the tests say, and `==` at slices; the stretch of a point as a part of the keys. Assumes nothing.
-use Rattle.std.proofs.Common.{◌≡◌, ℕ, suc, ◌+◌, ◌-◌, ◌*◌, ◌<◌, ◌≤◌, T, eqb, List, [], ◌∷◌, length, take, drop, ℤ, pos, negsuc, sym, refl, ap, subst, ap₂, mul-le-mul_left, arith, eqb→eq}
+-- Equal keys: what the tests say; the stretch of a point as a part of the keys. Assumes nothing.
+use Rattle.std.proofs.Common.{◌≡◌, ℕ, suc, ◌+◌, ◌-◌, ◌*◌, ◌<◌, ◌≤◌, T, false, eqb, List, [], ◌∷◌, length, take, drop, ℤ, pos, negsuc, sym, refl, ap, subst, ap₂, mul-le-mul_left, arith, eqb→eq}
 use lib.Dec.{eqb_refl}
-use Rattle.std.specs.Bool.{one_answer}
-use Rattle.std.specs.Ordering.{int_eq}
-use Rattle.std.specs.Cmp.Lexicographic.{pointwise}
-use Rattle.std.specs.Cmp.Rules.{signed_items}
+use Rattle.std.specs.Bool.{Decides}
 use Rattle.whole.specs.Lists.{at}
-use Rattle.whole.proofs.Tests.{and_l, and_r, and_i, T_true}
+use Rattle.whole.proofs.Tests.{and_l, and_r, and_i, T_true, T_false}
 use Rattle.whole.proofs.Lists.{length_tab, part_tab}
 use Rattle.index.specs.Keys.{eq_z, same, key_at}
 
@@ -39,9 +36,12 @@ same_refl (a ∷ k) = and_i (eq_z a a) (same k k) (eq_z_refl a) (same_refl k)
 pub eq_same : (k l : List ℤ) → k ≡ l → T (same k l)
 eq_same k l e = subst (λ (l : List ℤ). T (same k l)) e (same_refl k)
 
--- ---- two keys, compared as slices
-pub slices_same : (a b : List ℤ) → pointwise int_eq a b ≡ same a b
-slices_same a b = one_answer _ _ (signed_items a b) (λ t. same_eq a b (subst T (sym t) tt), λ e. T_true (same a b) (eq_same a b e))
+-- ---- two keys compared
+pub same_decides : (a b : List ℤ) → Decides (same a b) (a ≡ b)
+same_decides a b = (λ t. same_eq a b (subst T (sym t) tt), λ e. T_true (same a b) (eq_same a b e))
+
+pub same_lengths : (a b : List ℤ) → (length a ≡ length b → ⊥) → false ≡ same a b
+same_lengths a b h = sym (T_false (same a b) (λ t. h (ap length (same_eq a b t))))
 
 -- ---- the stretch of a point
 pub key_at_length : (d : ℕ) (keys : List ℤ) (i : ℕ) → length (key_at d keys i) ≡ d

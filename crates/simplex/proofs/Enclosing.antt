@@ -7,8 +7,7 @@ use native.Mathlib.Nat.{mul-le-mul, mul-pos}
 use native.Mathlib.Numerals.{add-one}
 use native.Mathlib.Omega.{arith}
 use lib.IntN.{ℤ, pos, neg_ℤ, ◌-ℤ◌, ◌*ℤ◌}
-use lib.ListN.{length, replicate, take}
-use lib.Seq.{length-take-le, get_or-take}
+use lib.ListN.{length, replicate}
 use Rattle.whole.specs.Floor.{floor, remainder}
 use Rattle.whole.specs.Sum.{sum}
 use Rattle.whole.specs.Lists.{at, tab, splice}
@@ -17,8 +16,7 @@ use Rattle.whole.proofs.Lists.{back}
 use Rattle.lattice.specs.Weight.{W}
 use Rattle.lattice.specs.Points.{spanned, last_of}
 use Rattle.simplex.specs.Slots.{Placed}
-use Rattle.simplex.specs.declared.split.Split.{Split}
-use Rattle.simplex.specs.Inner.{Total, SplitOf, Near, Parts, split_at, coordinate, SplitsOf, point_of, CornerIs, CornerFrom, weights_by, coords_by}
+use Rattle.simplex.specs.Inner.{Total, Near, Parts, coordinate, SplitsOf, point_of, CornerIs, weights_by, coords_by}
 use Rattle.simplex.proofs.Splits.{part_of, join_split}
 use Rattle.simplex.proofs.Peak.{peak_cong}
 use Rattle.simplex.proofs.Padding.{padded_cong, length_padded}
@@ -51,35 +49,27 @@ module _ (d S : ℕ) (x : List ℤ) (Q : Placed d S x) where
   pub near_of : Near ((d + 1) * S) x (length x)
   near_of = record { total = total_of; few = omega (arith, Q.size, Q.d_most); near = λ i l. Q.near i (omega (arith, Q.size)) }
 
-  -- the splits that the corners read, those of the coordinates
-  module _ {splits : List Split} (R : SplitsOf ((d + 1) * S) (length x) x splits) where
-    abbrev read : List Split
-    read = take (d + 1) splits
+  module _ {floors rests : List ℤ} (R : SplitsOf ((d + 1) * S) (length x) x floors rests) where
+    floor_at : (i : ℕ) → i < d + 1 → at floors i ≡ floor (at x i) ((d + 1) * S)
+    floor_at i l = R.floor_at i (omega (arith, Q.size))
 
-    pub read_long : length read ≡ d + 1
-    read_long = length-take-le (d + 1) splits (omega (arith, R.six, Q.d_most))
+    rest_at : (i : ℕ) → i < d + 1 → at rests i ≡ pos (remainder (at x i) ((d + 1) * S))
+    rest_at i l = R.rest_at i (omega (arith, Q.size))
 
-    each : (i : ℕ) → i < d + 1 → SplitOf ((d + 1) * S) (at x i) (split_at read i).floor (split_at read i).rest
-    each i l = rw (get_or-take (d + 1) splits i (record { floor = pos 0; rest = pos 0 }) l) (R.each i (omega (arith, Q.size)))
-
-    pub parts_of : Parts ((d + 1) * S) read
+    pub parts_of : Parts ((d + 1) * S) (d + 1) floors rests
     parts_of = record {
       total = total_of;
-      few = omega (arith, read_long, Q.d_most);
-      part = λ i l. let k : i < d + 1 = omega (arith, read_long) in let s = each i k in rw (s.floor_is, s.rest_is) (part_of ((d + 1) * S) (at x i) total_of.some (Q.near i (omega arith)));
+      few = omega (arith, Q.d_most);
+      six = R.six;
+      part = λ i l. rw (floor_at i l, rest_at i l) (part_of ((d + 1) * S) (at x i) total_of.some (Q.near i (omega arith)));
     }
 
-    own : (i : ℕ) → i < d + 1 → coordinate ((d + 1) * S) read i ≡ at x i
-    own i l = let s = each i l in rw (s.floor_is, s.rest_is) (join_split ((d + 1) * S) (at x i) total_of.some)
+    own : (i : ℕ) → i < d + 1 → coordinate ((d + 1) * S) floors rests i ≡ at x i
+    own i l = rw (floor_at i l, rest_at i l) (join_split ((d + 1) * S) (at x i) total_of.some)
 
-    pub corner_is : (j : ℕ) → j < d + 1 → {point : List ℤ} {slot weight : ℕ} → CornerIs ((d + 1) * S) (d + 1) (coordinate ((d + 1) * S) read) j point slot weight
+    pub corner_is : (j : ℕ) → j < d + 1 → {point : List ℤ} {slot weight : ℕ} → CornerIs ((d + 1) * S) (d + 1) (coordinate ((d + 1) * S) floors rests) j point slot weight
         → CornerIs (W d S) (suc d) (at x) j point slot weight
-    corner_is j q C = rw (← (add-one d)) (corner_cong ((d + 1) * S) (d + 1) (coordinate ((d + 1) * S) read) (at x) j own q C)
-
-    -- the corner that is made of them
-    pub corner_made_is : (j : ℕ) → j < d + 1 → {z : List ℤ} {t : ℤ} {slot weight : ℕ} → CornerFrom ((d + 1) * S) (length read) (coordinate ((d + 1) * S) read) j z t slot weight
-        → CornerIs (W d S) (suc d) (at x) j (point_of (d + 1) z t) slot weight
-    corner_made_is j q C = corner_is j q (rw read_long at C.corner)
+    corner_is j q C = rw (← (add-one d)) (corner_cong ((d + 1) * S) (d + 1) (coordinate ((d + 1) * S) floors rests) (at x) j own q C)
 
 -- ---- the slots before the first corner
 pub no_weights : (d S : ℕ) (x : List ℤ) → replicate 6 0 ≡ weights_by d S x 0

@@ -20,8 +20,7 @@ use Rattle.whole.proofs.Lists.{place_more}
 use Rattle.whole.proofs.Floor.{remainder_lt}
 use Rattle.whole.proofs.Sum.{sum_more, sum_abs}
 use Rattle.lattice.specs.Points.{spanned}
-use Rattle.simplex.specs.declared.split.Split.{Split}
-use Rattle.simplex.specs.Inner.{peak, Total, SplitOf, joined, Part, Parts, split_at, coordinate, StepsFrom, Span, CornerFrom}
+use Rattle.simplex.specs.Inner.{peak, Total, SplitOf, joined, Part, Parts, coordinate, StepsFrom, Span, CornerFrom}
 use Rattle.simplex.proofs.Splits.{minus_low, minus_high}
 use Rattle.simplex.proofs.Peak.{peak_le}
 use Rattle.simplex.proofs.Padding.{padded_cong}
@@ -52,8 +51,8 @@ floor_near w q r q' r' A B = go (le_or_lt (pos 0) (r -ℤ r'))
     go (inr h) = rw (← (minus_low w q r q' r' A B h).floor_is) (zabs (search zlin depth 14) (omega (arith, zin)))
 
 -- the same of two of the splits
-pub step_near : {w i j : ℕ} {splits : List Split} {q r : ℤ} → Parts w splits → i < length splits → j < length splits
-    → SplitOf w (coordinate w splits i -ℤ coordinate w splits j) q r → Abs≤ q 2000001
+pub step_near : {w n i j : ℕ} {floors rests : List ℤ} {q r : ℤ} → Parts w n floors rests → i < n → j < n
+    → SplitOf w (coordinate w floors rests i -ℤ coordinate w floors rests j) q r → Abs≤ q 2000001
 step_near Q l k S = rw S.floor_is (floor_near _ _ _ _ _ (Q.part _ l) (Q.part _ k))
 
 -- and so is its remainder
@@ -61,15 +60,12 @@ pub rest_within : {w : ℕ} {z q r : ℤ} → SplitOf w z q r → Total w → Wi
 rest_within {w} {z} S t = let l = remainder_lt z w t.some in rw S.rest_is (record { low = omega (arith, zout); high = omega (arith, zout) })
 
 -- ---- the corner that the steps make
-module _ (w : ℕ) (splits : List Split) (j : ℕ) (Q : Parts w splits) (q : j < length splits) {z : List ℤ} {t : ℤ} {s : ℕ} (F : StepsFrom w (length splits) (coordinate w splits) j z t (pos s)) where
-  abbrev n : ℕ
-  n = length splits
-
+module _ (w n : ℕ) (floors rests : List ℤ) (j : ℕ) (Q : Parts w n floors rests) (q : j < n) {z : List ℤ} {t : ℤ} {s : ℕ} (F : StepsFrom w n (coordinate w floors rests) j z t (pos s)) where
   abbrev x : ℕ → ℤ
-  x = coordinate w splits
+  x = coordinate w floors rests
 
   each_near : (i : ℕ) → i < n → Abs≤ (floor (x i -ℤ x j) w) 2000001
-  each_near i l = floor_near w (split_at splits i).floor (split_at splits i).rest (split_at splits j).floor (split_at splits j).rest (Q.part i l) (Q.part j q)
+  each_near i l = floor_near w (at floors i) (at rests i) (at floors j) (at rests j) (Q.part i l) (Q.part j q)
 
   pub span_of : Span n z t
   span_of = record {

@@ -1,12 +1,11 @@
 -- What the functions behind `enclose` compute, over any n up to six coordinates and any W. No contract that another crate sees cites this file.
-use Rattle.std.specs.Prelude.{◌≡◌, cond, List, ℕ, zero, suc, ◌-◌, ◌/◌, ◌%◌, ◌≤◌, ◌<◌, max, ℤ, pos, neg_ℤ, ◌+ℤ◌, ◌-ℤ◌, ◌*ℤ◌, ◌≤ℤ◌, ◌<ℤ◌, ltb, length, get_or}
+use Rattle.std.specs.Prelude.{◌≡◌, cond, List, ℕ, zero, suc, ◌-◌, ◌/◌, ◌%◌, ◌≤◌, ◌<◌, max, ℤ, pos, neg_ℤ, ◌+ℤ◌, ◌-ℤ◌, ◌*ℤ◌, ◌≤ℤ◌, ◌<ℤ◌, ltb, length}
 use Rattle.whole.specs.Size.{Abs≤}
 use Rattle.whole.specs.Floor.{floor, remainder}
 use Rattle.whole.specs.Sum.{sum}
 use Rattle.whole.specs.Lists.{at, tab}
 use Rattle.lattice.specs.Points.{spanned, corner_of}
 use Rattle.lattice.specs.Limits.{most_coords, most_W, farthest}
-use Rattle.simplex.specs.declared.split.Split.{Split}
 use Rattle.simplex.specs.Slots.{slot_numbers, weight_in, coord_in}
 
 -- f 0, …, f (n - 1), and 0 in the rest of six places
@@ -38,19 +37,21 @@ pub record Part (w : ℕ) (q r : ℤ) : Type 0 where
   pub low : pos 0 ≤ℤ r
   pub high : r <ℤ pos w
 
--- the split at place i
-abbrev pub split_at : List Split → ℕ → Split
-split_at l i = get_or l i (record { floor = pos 0; rest = pos 0 })
+-- two lists of six places
+pub record Six (floors rests : List ℤ) : Type 0 where
+  pub floors_six : length floors ≡ most_coords
+  pub rests_six : length rests ≡ most_coords
 
--- the splits of up to six coordinates
-pub record Parts (w : ℕ) (splits : List Split) : Type 0 where
+-- the first n splits of two lists of six
+pub record Parts (w n : ℕ) (floors rests : List ℤ) : Type 0 where
   pub total : Total w
-  pub few : length splits ≤ most_coords
-  pub part : (i : ℕ) → i < length splits → Part w (split_at splits i).floor (split_at splits i).rest
+  pub few : n ≤ most_coords
+  pub six : Six floors rests
+  pub part : (i : ℕ) → i < n → Part w (at floors i) (at rests i)
 
 -- the coordinates that they are of
-abbrev pub coordinate : ℕ → List Split → ℕ → ℤ
-coordinate w splits i = joined w (split_at splits i).floor (split_at splits i).rest
+abbrev pub coordinate : ℕ → List ℤ → List ℤ → ℕ → ℤ
+coordinate w floors rests i = joined w (at floors i) (at rests i)
 
 -- up to six coordinates within ±1,000,000
 pub record Near (w : ℕ) (x : List ℤ) (n : ℕ) : Type 0 where
@@ -58,10 +59,11 @@ pub record Near (w : ℕ) (x : List ℤ) (n : ℕ) : Type 0 where
   pub few : n ≤ most_coords
   pub near : (i : ℕ) → i < n → Abs≤ (at x i) farthest
 
--- six splits, the first n of them those of the first n coordinates
-pub record SplitsOf (w n : ℕ) (x : List ℤ) (splits : List Split) : Type 0 where
-  pub six : length splits ≡ most_coords
-  pub each : (i : ℕ) → i < n → SplitOf w (at x i) (split_at splits i).floor (split_at splits i).rest
+-- two such lists with the splits of the first n coordinates
+pub record SplitsOf (w n : ℕ) (x floors rests : List ℤ) : Type 0 where
+  pub six : Six floors rests
+  pub floor_at : (i : ℕ) → i < n → at floors i ≡ floor (at x i) w
+  pub rest_at : (i : ℕ) → i < n → at rests i ≡ pos (remainder (at x i) w)
 
 -- the differences from place j: floors, their sum, and the greatest remainder
 pub record StepsFrom (w n : ℕ) (x : ℕ → ℤ) (j : ℕ) (z : List ℤ) (total spread : ℤ) : Type 0 where

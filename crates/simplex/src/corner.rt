@@ -4,7 +4,7 @@ ghost use Rattle.whole.specs.Lists.{at};
 ghost use Rattle.lattice.specs.Limits.{most_coords};
 ghost use Rattle.simplex.specs.Inner.{Parts, coordinate, StepsFrom, Span, CornerFrom};
 
-use crate::split::{Split, minus};
+use crate::split::{Split, Splits, minus};
 use lattice::limits::MOST_COORDS;
 
 // The sum of the floors of the differences from one place, and the greatest of the remainders.
@@ -24,19 +24,26 @@ pub struct Corner {
 }
 
 // One difference a turn: place i from place j. The floors are left in z, where the point is made from
-// them: an array handed back would be copied.
-fn steps_from(splits: &[Split], w: u32, j: usize, z: &mut [i32; MOST_COORDS]) -> Steps
-    requires parts { Parts w splits.now }
-    requires j_lt_n { j < length splits.now }
+// them: an array handed back would be copied. A loop by number: a split stands in two arrays.
+fn steps_from(splits: &Splits, n: usize, w: u32, j: usize, z: &mut [i32; MOST_COORDS]) -> Steps
+    requires parts { Parts w n splits.now.floors splits.now.rests }
+    requires j_lt_n { j < n }
     requires z_len { length z.old ≡ most_coords }
-    ensures { let x = coordinate w splits.now in
-        StepsFrom w (length splits.now) x j z.new result.total (pos result.spread) }
+    ensures { let x = coordinate w splits.now.floors splits.now.rests in
+        StepsFrom w n x j z.new result.total (pos result.spread) }
 {
-    let base = splits[j];
+    let base = Split {
+        floor: splits.floors[j],
+        rest: splits.rests[j],
+    };
     let mut total = 0;
     let mut spread: u32 = 0;
-    for (i, here) in splits.iter().enumerate() {
-        let s = minus(*here, base, w);
+    for i in 0..n {
+        let here = Split {
+            floor: splits.floors[i],
+            rest: splits.rests[i],
+        };
+        let s = minus(here, base, w);
         z[i] = s.floor;
         total += s.floor;
         spread = spread.max(s.rest as u32);
@@ -46,15 +53,15 @@ fn steps_from(splits: &[Split], w: u32, j: usize, z: &mut [i32; MOST_COORDS]) ->
 
 // The corner of place j, with its floors in z. Its weight is W less the greatest remainder of the
 // differences from j, since those are its residuals up to a constant.
-pub fn corner_of(splits: &[Split], w: u32, j: usize, z: &mut [i32; MOST_COORDS]) -> Corner
-    requires parts { Parts w splits.now }
-    requires j_lt_n { j < length splits.now }
+pub fn corner_of(splits: &Splits, n: usize, w: u32, j: usize, z: &mut [i32; MOST_COORDS]) -> Corner
+    requires parts { Parts w n splits.now.floors splits.now.rests }
+    requires j_lt_n { j < n }
     requires z_len { length z.old ≡ most_coords }
-    ensures { let x = coordinate w splits.now in
-        CornerFrom w (length splits.now) x j z.new result.total result.slot result.weight }
+    ensures { let x = coordinate w splits.now.floors splits.now.rests in
+        CornerFrom w n x j z.new result.total result.slot result.weight }
 {
-    let s = steps_from(splits, w, j, z);
-    let k = whole::division::remainder_of(-s.total, splits.len() as u32);
+    let s = steps_from(splits, n, w, j, z);
+    let k = whole::division::remainder_of(-s.total, n as u32);
     Corner {
         total: s.total,
         slot: k as usize,

@@ -10,7 +10,7 @@ mod corner;
 mod split;
 
 use crate::corner::{corner_of, point_at};
-use crate::split::{Split, put_splits};
+use crate::split::{Splits, put_splits};
 use lattice::limits::MOST_COORDS;
 
 // All numbers of the slots: six coordinates for each of six remainders.
@@ -58,7 +58,10 @@ pub fn enclose(x: &[i32], d: usize, fineness: u32) -> Simplex
 {
     let n = d + 1;
     let w = (n as u32) * fineness;
-    let mut splits = [Split { floor: 0, rest: 0 }; MOST_COORDS];
+    let mut splits = Splits {
+        floors: [0i32; MOST_COORDS],
+        rests: [0i32; MOST_COORDS],
+    };
     put_splits(x, w, &mut splits);
     let mut z = [0i32; MOST_COORDS];
     let mut simplex = Simplex {
@@ -66,7 +69,7 @@ pub fn enclose(x: &[i32], d: usize, fineness: u32) -> Simplex
         coords: [0i32; SLOT_NUMBERS],
     };
     for j in 0..n {
-        let c = corner_of(&splits[..n], w, j, &mut z);
+        let c = corner_of(&splits, n, w, j, &mut z);
         let k = c.slot;
         simplex.weights[k] = c.weight;
         let start = MOST_COORDS * k;

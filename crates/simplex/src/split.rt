@@ -1,8 +1,8 @@
 // The splits of a position: each coordinate divided once by W, into floor and remainder.
-ghost use Rattle.std.specs.Prelude.{◌-ℤ◌, length, ◌≡◌};
+ghost use Rattle.std.specs.Prelude.{◌-ℤ◌, length};
 ghost use Rattle.whole.specs.Size.{Abs≤};
-ghost use Rattle.lattice.specs.Limits.{farthest, most_coords};
-ghost use Rattle.simplex.specs.Inner.{Total, SplitOf, joined, Part, Near, SplitsOf};
+ghost use Rattle.lattice.specs.Limits.{farthest};
+ghost use Rattle.simplex.specs.Inner.{Total, SplitOf, joined, Part, Near, Six, SplitsOf};
 
 use lattice::limits::MOST_COORDS;
 
@@ -11,6 +11,14 @@ use lattice::limits::MOST_COORDS;
 pub struct Split {
     pub floor: i32,
     pub rest: i32,
+}
+
+// The splits of up to six coordinates, in two arrays: a split that is read whole, as an array of them is
+// read, waits for the two writes that made it, and with one coordinate `enclose` took a third longer.
+#[derive(Drop)]
+pub struct Splits {
+    pub floors: [i32; MOST_COORDS],
+    pub rests: [i32; MOST_COORDS],
 }
 
 // One division, and the remainder by a product.
@@ -26,15 +34,17 @@ fn split_of(x: i32, w: u32) -> Split
     }
 }
 
-// The splits of up to six coordinates, in their order. They are written where the corners read them:
-// an array handed back would be copied.
-pub fn put_splits(x: &[i32], w: u32, splits: &mut [Split; MOST_COORDS])
+// The splits of the coordinates in their order. They are written where the corners read them: arrays
+// handed back would be copied.
+pub fn put_splits(x: &[i32], w: u32, splits: &mut Splits)
     requires near { Near w x.now (length x.now) }
-    requires six { length splits.old ≡ most_coords }
-    ensures { SplitsOf w (length x.now) x.now splits.new }
+    requires six { Six splits.old.floors splits.old.rests }
+    ensures { SplitsOf w (length x.now) x.now splits.new.floors splits.new.rests }
 {
     for (i, c) in x.iter().enumerate() {
-        splits[i] = split_of(*c, w);
+        let s = split_of(*c, w);
+        splits.floors[i] = s.floor;
+        splits.rests[i] = s.rest;
     }
 }
 

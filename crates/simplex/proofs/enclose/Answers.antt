@@ -4,7 +4,7 @@ use Rattle.whole.proofs.Signed.{W32}
 use Rattle.whole.proofs.Size.{back32}
 use Rattle.simplex.specs.Inner.{weights_by, coords_by}
 use Rattle.simplex.proofs.Slots.{weights_turn, coords_turn, weights_all, coords_all}
-use Rattle.simplex.proofs.Enclosing.{parts_of, corner_made_is, no_weights, no_coords, put_back}
+use Rattle.simplex.proofs.Enclosing.{parts_of, corner_is, no_weights, no_coords, put_back}
 use Rattle.simplex.proofs.enclose.Goals as goal
 
 pub loop-j-init : goal.loop-j-init
@@ -19,7 +19,7 @@ loop-j-preserved c =
     let p = c.requires in
     let q : c.loop-j.j < suc c.args.d = omega arith in
     let e = sym (add-one c.loop-j.j) in
-    let here = corner_made_is _ _ _ p c.put_splits.ensures c.loop-j.j (search rules) c.corner_of-c.ensures in (
+    let here = corner_is _ _ _ p c.put_splits.ensures c.loop-j.j (search rules) c.corner_of-c.ensures.corner in (
       search rules,
       c.corner_of-c.ensures.span.z_six,
       weights_turn _ _ _ c.loop-j.j p.S_least q here p.d_most c.loop-j.invariant.2 refl ∙ ap (weights_by _ _ _) e,

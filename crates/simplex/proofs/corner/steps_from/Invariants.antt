@@ -5,4 +5,4 @@ use Rattle.simplex.specs.Inner.{StepsFrom, coordinate}
 use Rattle.simplex.proofs.corner.steps_from.Given as goal
 
 abbrev pub invariant-loop-i : goal.invariant-loop-i
-invariant-loop-i l = StepsFrom l.w l.i (coordinate l.w l.splits) l.j l.z l.total (pos l.spread) × Abs≤ l.total (l.i * 2000001)
+invariant-loop-i l = StepsFrom l.w l.i (coordinate l.w l.splits.floors l.splits.rests) l.j l.z l.total (pos l.spread) × Abs≤ l.total (l.i * 2000001)
