@@ -4,8 +4,9 @@
 // numbers make. `export_c` has these functions as C calls them.
 #![tactic(auto)]
 
+ghost use Rattle.std.specs.Prelude.{◌≡◌};
 ghost use Rattle.table.specs.Table.{Settings};
-ghost use Rattle.table.specs.Heads.{head_of, settings};
+ghost use Rattle.table.specs.Heads.{head_of, settings, head_told, told_beside};
 ghost use Rattle.book.specs.Calls.{fresh_refusal, after_fresh, enter, merge_refusal, after_merge, withdraw_refusal, after_withdraw};
 ghost use Rattle.book.specs.Heads.{booked_in, lent_in, AnswersBookIn, EntersBookIn, booked};
 ghost use Rattle.listing.specs.Listing.{ListsIn};
@@ -15,7 +16,17 @@ ghost use Rattle.report.specs.Report.{Reports};
 ghost use Rattle.export.specs.Numbers.{head_from};
 
 use lattice::refusals::number_told;
-use table::Head;
+use table::{Head, Refused};
+
+// The number that a call tells, and the head that it hands back beside it.
+fn handed_back(outcome: Result<Head, Refused>) -> (u8, Head)
+    ensures { (result.0 ≡ told_beside outcome) × (result.1 ≡ head_told outcome) }
+{
+    match outcome {
+        Ok(head) => (0, head),
+        Err(refused) => (refused.refusal.number(), refused.head),
+    }
+}
 
 // Makes a fresh table of these settings. The readings and points told are 0, refused or not, whatever
 // they were.
@@ -36,10 +47,11 @@ pub fn vimrothi_fresh(
         let after = head_from d.exit.now fineness.new capacity.new room.new readings.new points.new in
         AnswersBookIn (head_of c room.old) (fresh_refusal c b) (after_fresh c b) result after keys sums index book) }
 {
-    let made = book::fresh::fresh(*d, *fineness, *capacity, *room, keys, sums, index, book);
-    *readings = 0;
-    *points = 0;
-    number_told(&made)
+    let fresh = book::fresh::fresh(*d, *fineness, *capacity, *room, keys, sums, index, book);
+    let (number, made) = handed_back(fresh);
+    *readings = made.readings;
+    *points = made.points;
+    number
 }
 
 // Enters a list of readings, each with its number, and tells how many were taken.
@@ -137,14 +149,10 @@ pub fn vimrothi_merge(
         source_index,
         source_book,
     );
-    match merged {
-        Ok(after) => {
-            *readings = after.readings;
-            *points = after.points;
-            0
-        }
-        Err(refusal) => refusal.number(),
-    }
+    let (number, after) = handed_back(merged);
+    *readings = after.readings;
+    *points = after.points;
+    number
 }
 
 // Takes back the reading that has this number.
@@ -175,14 +183,11 @@ pub fn vimrothi_withdraw(
         readings: *readings,
         points: *points,
     };
-    match withdraw::withdraw(head, keys, sums, index, book, number) {
-        Ok(after) => {
-            *readings = after.readings;
-            *points = after.points;
-            0
-        }
-        Err(refusal) => refusal.number(),
-    }
+    let withdrawn = withdraw::withdraw(head, keys, sums, index, book, number);
+    let (told, left) = handed_back(withdrawn);
+    *readings = left.readings;
+    *points = left.points;
+    told
 }
 
 // Lists a table's points in the order of their keys.
