@@ -70,8 +70,8 @@ pub fn enter_fresh(
 ) -> io::Result<Head> {
     let capacity = keys.len();
     let room = book.len() / 4;
-    let made = handed_back(fresh(1, fineness, capacity, room, keys, sums, index, book));
-    let entered = enter(made.1, keys, sums, index, book, readings);
+    let (_, made) = handed_back(fresh(1, fineness, capacity, room, keys, sums, index, book));
+    let entered = enter(made, keys, sums, index, book, readings);
     println!(rt; "TAKEN {} {}", entered.taken, number_told(&entered.end))?;
     Ok(entered.head)
 }
