@@ -4,9 +4,8 @@
 // numbers make. `export_c` has these functions as C calls them.
 #![tactic(auto)]
 
-ghost use Rattle.std.specs.Prelude.{◌≡◌};
 ghost use Rattle.table.specs.Table.{Settings};
-ghost use Rattle.table.specs.Heads.{head_of, settings, head_told, told_beside};
+ghost use Rattle.table.specs.Heads.{head_of, settings};
 ghost use Rattle.book.specs.Calls.{fresh_refusal, after_fresh, enter, merge_refusal, after_merge, withdraw_refusal, after_withdraw};
 ghost use Rattle.book.specs.Heads.{booked_in, lent_in, AnswersBookIn, EntersBookIn, booked};
 ghost use Rattle.listing.specs.Listing.{ListsIn};
@@ -15,18 +14,11 @@ ghost use Rattle.load.specs.Loading.{LoadsIn, load};
 ghost use Rattle.report.specs.Report.{Reports};
 ghost use Rattle.export.specs.Numbers.{head_from};
 
-use lattice::refusals::number_told;
-use table::{Head, Refused};
+mod handing;
 
-// The number that a call tells, and the head that it hands back beside it.
-fn handed_back(outcome: Result<Head, Refused>) -> (u8, Head)
-    ensures { (result.0 ≡ told_beside outcome) × (result.1 ≡ head_told outcome) }
-{
-    match outcome {
-        Ok(head) => (0, head),
-        Err(refused) => (refused.refusal.number(), refused.head),
-    }
-}
+use crate::handing::handed_back;
+use lattice::refusals::number_told;
+use table::Head;
 
 // Makes a fresh table of these settings. The readings and points told are 0, refused or not, whatever
 // they were.
