@@ -1,16 +1,15 @@
 // Making a fresh table with its book in lent memory.
 ghost use Rattle.table.specs.Table.{Settings};
-ghost use Rattle.lattice.specs.Refusals.{told};
-ghost use Rattle.table.specs.Heads.{head_of, head_told};
+ghost use Rattle.table.specs.Heads.{head_of, head_told, told_beside};
 ghost use Rattle.book.specs.Calls.{fresh_refusal, after_fresh};
 ghost use Rattle.book.specs.Heads.{lent_in, AnswersBookIn};
 
 use crate::settings::{in_range, lengths_fit};
 use lattice::refusals::Refusal;
-use table::Head;
+use table::{Head, Refused};
 
-// The head of these settings with no reading and no point, and the slices filled with 0; refused, they
-// are left as they were.
+// The head of these settings with no reading and no point, refused or not; the slices are filled with 0
+// where it is not.
 pub fn fresh(
     d: usize,
     fineness: u32,
@@ -20,13 +19,24 @@ pub fn fresh(
     sums: &mut [i64],
     index: &mut [u16],
     book: &mut [i32],
-) -> Result<Head, Refusal>
+) -> Result<Head, Refused>
     ensures { (let c : Settings = record { d = d; S = fineness; C = capacity } in
         let b = lent_in room keys sums index book in
-        AnswersBookIn (head_of c room) (fresh_refusal c b) (after_fresh c b) (told result) (head_told (head_of c room) result) keys sums index book) }
+        AnswersBookIn (head_of c room) (fresh_refusal c b) (after_fresh c b) (told_beside result) (head_told result) keys sums index book) }
 {
+    let head = Head {
+        d,
+        fineness,
+        capacity,
+        room,
+        readings: 0,
+        points: 0,
+    };
     if !in_range(d, fineness, capacity, room) {
-        return Err(Refusal::SettingsOutOfRange);
+        return Err(Refused {
+            refusal: Refusal::SettingsOutOfRange,
+            head,
+        });
     }
     if !lengths_fit(
         d,
@@ -37,18 +47,14 @@ pub fn fresh(
         index.len(),
         book.len(),
     ) {
-        return Err(Refusal::OtherLength);
+        return Err(Refused {
+            refusal: Refusal::OtherLength,
+            head,
+        });
     }
     keys.fill(0);
     sums.fill(0);
     index.fill(0);
     book.fill(0);
-    Ok(Head {
-        d,
-        fineness,
-        capacity,
-        room,
-        readings: 0,
-        points: 0,
-    })
+    Ok(head)
 }

@@ -7,7 +7,7 @@ use lattice::refusals::number_told;
 use listing::list;
 use merge::merge;
 use std::io;
-use table::Head;
+use table::{Head, Refused};
 
 // Point i: both coordinates, mass, value sum.
 fn print_point(rt: &impl Print, keys: &[i32], sums: &[i64], i: usize) -> io::Result<()> {
@@ -49,6 +49,14 @@ pub fn print_book(rt: &impl Print, book: &[i32]) -> io::Result<()> {
     println!(rt; "")
 }
 
+// The number that a call tells, and the head that it hands back beside it.
+pub fn handed_back(outcome: Result<Head, Refused>) -> (u8, Head) {
+    match outcome {
+        Ok(head) => (0, head),
+        Err(refused) => (refused.refusal.number(), refused.head),
+    }
+}
+
 // A list of readings entered into a fresh table with room for as many points as there are keys: how
 // many were taken, and the number. The book has entries of 4 numbers.
 pub fn enter_fresh(
@@ -62,16 +70,8 @@ pub fn enter_fresh(
 ) -> io::Result<Head> {
     let capacity = keys.len();
     let room = book.len() / 4;
-    let given = Head {
-        d: 1,
-        fineness,
-        capacity,
-        room,
-        readings: 0,
-        points: 0,
-    };
-    let head = fresh(1, fineness, capacity, room, keys, sums, index, book).unwrap_or(given);
-    let entered = enter(head, keys, sums, index, book, readings);
+    let (_, made) = handed_back(fresh(1, fineness, capacity, room, keys, sums, index, book));
+    let entered = enter(made, keys, sums, index, book, readings);
     println!(rt; "TAKEN {} {}", entered.taken, number_told(&entered.end))?;
     Ok(entered.head)
 }
@@ -125,8 +125,9 @@ fn show_source_merged(
         &source_index,
         &source_book,
     );
-    println!(rt; "MERGED {}", number_told(&merged))?;
-    print_table(rt, merged.unwrap_or(head), keys, sums, index, book, order)?;
+    let (number, after) = handed_back(merged);
+    println!(rt; "MERGED {number}")?;
+    print_table(rt, after, keys, sums, index, book, order)?;
     print_book(rt, book)
 }
 

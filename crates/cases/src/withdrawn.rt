@@ -1,7 +1,6 @@
 // A reading of document 01's log taken back. Its table is entered as above, with the numbers 7 and -3,
 // and its book has room for a third, in which something else stands.
-use crate::tables::{enter_fresh, print_book, print_table};
-use lattice::refusals::number_told;
+use crate::tables::{enter_fresh, handed_back, print_book, print_table};
 use std::io;
 use table::Head;
 use withdraw::withdraw;
@@ -17,9 +16,9 @@ fn show_left(
     order: &mut [u16],
     number: i32,
 ) -> io::Result<()> {
-    let left = withdraw(head, keys, sums, index, book, number);
-    println!(rt; "WITHDRAWN {}", number_told(&left))?;
-    print_table(rt, left.unwrap_or(head), keys, sums, index, book, order)?;
+    let (told, left) = handed_back(withdraw(head, keys, sums, index, book, number));
+    println!(rt; "WITHDRAWN {told}")?;
+    print_table(rt, left, keys, sums, index, book, order)?;
     print_book(rt, book)
 }
 

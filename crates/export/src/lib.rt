@@ -14,6 +14,9 @@ ghost use Rattle.load.specs.Loading.{LoadsIn, load};
 ghost use Rattle.report.specs.Report.{Reports};
 ghost use Rattle.export.specs.Numbers.{head_from};
 
+mod handing;
+
+use crate::handing::handed_back;
 use lattice::refusals::number_told;
 use table::Head;
 
@@ -36,10 +39,11 @@ pub fn vimrothi_fresh(
         let after = head_from d.exit.now fineness.new capacity.new room.new readings.new points.new in
         AnswersBookIn (head_of c room.old) (fresh_refusal c b) (after_fresh c b) result after keys sums index book) }
 {
-    let made = book::fresh::fresh(*d, *fineness, *capacity, *room, keys, sums, index, book);
-    *readings = 0;
-    *points = 0;
-    number_told(&made)
+    let fresh = book::fresh::fresh(*d, *fineness, *capacity, *room, keys, sums, index, book);
+    let (number, made) = handed_back(fresh);
+    *readings = made.readings;
+    *points = made.points;
+    number
 }
 
 // Enters a list of readings, each with its number, and tells how many were taken.
@@ -137,14 +141,10 @@ pub fn vimrothi_merge(
         source_index,
         source_book,
     );
-    match merged {
-        Ok(after) => {
-            *readings = after.readings;
-            *points = after.points;
-            0
-        }
-        Err(refusal) => refusal.number(),
-    }
+    let (number, after) = handed_back(merged);
+    *readings = after.readings;
+    *points = after.points;
+    number
 }
 
 // Takes back the reading that has this number.
@@ -175,14 +175,11 @@ pub fn vimrothi_withdraw(
         readings: *readings,
         points: *points,
     };
-    match withdraw::withdraw(head, keys, sums, index, book, number) {
-        Ok(after) => {
-            *readings = after.readings;
-            *points = after.points;
-            0
-        }
-        Err(refusal) => refusal.number(),
-    }
+    let withdrawn = withdraw::withdraw(head, keys, sums, index, book, number);
+    let (told, left) = handed_back(withdrawn);
+    *readings = left.readings;
+    *points = left.points;
+    told
 }
 
 // Lists a table's points in the order of their keys.

@@ -3,8 +3,7 @@
 // written.
 #![tactic(auto)]
 
-ghost use Rattle.lattice.specs.Refusals.{told};
-ghost use Rattle.table.specs.Heads.{settings, head_told};
+ghost use Rattle.table.specs.Heads.{settings, head_told, told_beside};
 ghost use Rattle.book.specs.Calls.{merge_refusal, after_merge};
 ghost use Rattle.book.specs.Heads.{booked_in, AnswersBookIn, booked};
 
@@ -14,11 +13,10 @@ mod source;
 
 use crate::adding::add_source;
 use crate::judging::merge_refusal;
-use lattice::refusals::Refusal;
-use table::{Head, with_counts};
+use table::{Head, Refused, with_counts};
 
-// The head of the target with the source in it, or the first refusal that is met. Capacities may differ,
-// and the rooms of the books.
+// The head of the target with the source in it, or the first refusal that is met, with the head as given.
+// Capacities may differ, and the rooms of the books.
 pub fn merge(
     head: Head,
     keys: &mut [i32],
@@ -30,14 +28,14 @@ pub fn merge(
     source_sums: &[i64],
     source_index: &[u16],
     source_book: &[i32],
-) -> Result<Head, Refusal>
+) -> Result<Head, Refused>
     ensures { let c = settings head in
         let e = settings source in
         let b = booked_in head keys sums index book in
         let s = booked source source_keys.now source_sums.now source_index.now source_book.now in
-        AnswersBookIn head (merge_refusal c b e s) (after_merge c b e s) (told result) (head_told head result) keys sums index book }
+        AnswersBookIn head (merge_refusal c b e s) (after_merge c b e s) (told_beside result) (head_told result) keys sums index book }
 {
-    merge_refusal(
+    let judged = merge_refusal(
         head,
         keys,
         sums,
@@ -48,7 +46,10 @@ pub fn merge(
         source_sums,
         source_index,
         source_book,
-    )?;
+    );
+    if let Err(refusal) = judged {
+        return Err(Refused { refusal, head });
+    }
     let points = add_source(
         head,
         keys,

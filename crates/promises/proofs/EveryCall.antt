@@ -13,9 +13,10 @@ use Rattle.lattice.specs.declared.refusals.Refusal.{Refusal}
 use Rattle.lattice.specs.Refusals.{told}
 use Rattle.lattice.proofs.Refusing.{one_told}
 use Rattle.table.specs.declared.Head.{Head}
+use Rattle.table.specs.declared.Refused.{Refused}
 use Rattle.table.specs.Table.{Settings}
 use Rattle.table.specs.Calls.{lent}
-use Rattle.table.specs.Heads.{settings, head_of, head_told, with_counts}
+use Rattle.table.specs.Heads.{settings, head_of, head_told, told_beside, with_counts}
 use Rattle.book.specs.Book.{Booked}
 use Rattle.book.specs.Calls.{fresh_refusal, after_fresh, enter, merge_refusal, after_merge, withdraw_refusal, after_withdraw}
 use Rattle.book.specs.Heads.{booked, AnswersBook, EntersBook}
@@ -27,9 +28,8 @@ use Rattle.reader.proofs.Saying.{one_said, said_there, one_found, found_there}
 use Rattle.load.specs.Loading.{load, Loads}
 use Rattle.report.specs.Report.{report, fitting, Reports}
 use Rattle.export.specs.Numbers as numbers
-use Rattle.export.proofs.Making.{none_held}
 use Rattle.promises.specs.Allowed.{Only, One, Ensures, Requires, AnswerAndMemory, Allows, Answering}
-use Rattle.promises.proofs.Telling.{Told, fresh_told, call_told, enter_told, merge_told, withdraw_told, load_told, head_by, head_tells, head_handed, head_given, one_head}
+use Rattle.promises.proofs.Telling.{Told, fresh_told, call_told, enter_told, merge_told, withdraw_told, load_told, head_by, head_tells, head_handed, one_head}
 use Rattle.promises.specs.EveryCall.{EveryCallOne, ReaderOne, ReaderSays, RefusedLeavesAll}
 
 -- ---- what a call on a table with its book answers and leaves
@@ -132,24 +132,23 @@ told_one {Allows = Allows} O t = record {
   only = λ u v p q. let e = O.only (told u.0, u.1) (told v.0, v.1) p q in λ i. (one_told u.0 v.0 (ap (λ o. o.0) e) i, (e i).1);
 }
 
--- what is left beside a head or a refusal
+-- what is left beside a head, and the refusal if any
 record Memory : Type 0 where
   keys : List ℤ
   sums : List ℤ
   index : List ℕ
   book : List ℤ
 
-abbrev HandsBack : Head → ℕ → Booked → Result Head Refusal × Memory → Type 0
-HandsBack h x b o = AnswersBook h x b (told o.0) (head_told h o.0) o.1.keys o.1.sums o.1.index o.1.book
+abbrev HandsBack : Head → ℕ → Booked → Result Head Refused × Memory → Type 0
+HandsBack h x b o = AnswersBook h x b (told_beside o.0) (head_told o.0) o.1.keys o.1.sums o.1.index o.1.book
 
--- a call that is refused hands back the head that it was given
-hands_back_one : (h : Head) (x : ℕ) (b : Booked) → Told x → ((x ≡ 0 → ⊥) → with_counts h b.table.n b.table.m ≡ h) → One (HandsBack h x b)
-hands_back_one h x b t same = let after = with_counts h b.table.n b.table.m in record {
+hands_back_one : (h : Head) (x : ℕ) (b : Booked) → Told x → One (HandsBack h x b)
+hands_back_one h x b t = let after = with_counts h b.table.n b.table.m in record {
   outcome = (head_by after t.by, record { keys = b.table.keys; sums = b.table.sums; index = b.table.index; book = b.book });
   allowed = record {
     answers = record {
       number_is = head_tells after t.by ∙ t.tells;
-      head_is = head_handed h after t.by (λ n. same (λ z. n (t.tells ∙ z)));
+      head_is = head_handed after t.by;
       keys_are = refl;
       sums_are = refl;
       index_are = refl;
@@ -157,7 +156,7 @@ hands_back_one h x b t same = let after = with_counts h b.table.n b.table.m in r
     book_is = refl;
   };
   only = λ u v A B. λ i. (
-    one_head h u.0 v.0 (A.answers.number_is ∙ sym B.answers.number_is) (A.answers.head_is ∙ sym B.answers.head_is) i,
+    one_head u.0 v.0 (A.answers.number_is ∙ sym B.answers.number_is) (A.answers.head_is ∙ sym B.answers.head_is) i,
     record {
       keys = (A.answers.keys_are ∙ sym B.answers.keys_are) i;
       sums = (A.answers.sums_are ∙ sym B.answers.sums_are) i;
@@ -168,20 +167,13 @@ hands_back_one h x b t same = let after = with_counts h b.table.n b.table.m in r
 }
 
 fresh_one : (c : Settings) (b : Booked) (room : ℕ) → One (HandsBack (head_of c room) (fresh_refusal c b) (after_fresh c b))
-fresh_one c b room = hands_back_one (head_of c room) _ (after_fresh c b) (fresh_told c b) (λ n. sym (none_held c b (fresh_refusal c b) refl room))
+fresh_one c b room = hands_back_one (head_of c room) _ (after_fresh c b) (fresh_told c b)
 
-merge_one : (h : Head) (b : Booked) (g : Head) (s : Booked) → with_counts h b.table.n b.table.m ≡ h
-    → One (HandsBack h (merge_refusal (settings h) b (settings g) s) (after_merge (settings h) b (settings g) s))
-merge_one h b g s e = let c = settings h in let x = merge_refusal c b (settings g) s in let u = after_merge c b (settings g) s in
-    hands_back_one h x u (merge_told c b (settings g) s) (λ n. head_given h b u x (λ y z. merge_refused c b (settings g) s y z) n ∙ e)
+merge_one : (h : Head) (b : Booked) (g : Head) (s : Booked) → One (HandsBack h (merge_refusal (settings h) b (settings g) s) (after_merge (settings h) b (settings g) s))
+merge_one h b g s = hands_back_one h _ (after_merge (settings h) b (settings g) s) (merge_told (settings h) b (settings g) s)
 
-withdraw_refused : (c : Settings) (b : Booked) (k : ℤ) (x : ℕ) → withdraw_refusal c b k ≡ suc x → after_withdraw c b k ≡ b
-unfolding after_withdraw
-withdraw_refused c b k x e = rw (e, after_withdraw)
-
-withdraw_one : (h : Head) (b : Booked) (k : ℤ) → with_counts h b.table.n b.table.m ≡ h → One (HandsBack h (withdraw_refusal (settings h) b k) (after_withdraw (settings h) b k))
-withdraw_one h b k e = let c = settings h in let x = withdraw_refusal c b k in let u = after_withdraw c b k in
-    hands_back_one h x u (withdraw_told c b k) (λ n. head_given h b u x (λ y z. withdraw_refused c b k y z) n ∙ e)
+withdraw_one : (h : Head) (b : Booked) (k : ℤ) → One (HandsBack h (withdraw_refusal (settings h) b k) (after_withdraw (settings h) b k))
+withdraw_one h b k = hands_back_one h _ (after_withdraw (settings h) b k) (withdraw_told (settings h) b k)
 
 -- ---- the contracts
 -- one outcome stays one where outcomes are told in another way, there and back
@@ -219,13 +211,13 @@ every_call_one = record {
       (λ o. (o.0, (tt, (o.1.keys, (o.1.sums, (o.1.index, (o.1.book, (tt, (tt, (tt, (tt, (tt, tt))))))))))))
       (λ o. refl)
       (λ o. refl)
-      (merge_one a.0 (booked a.0 a.1.0.now a.1.1.0.now a.1.1.1.0.now a.1.1.1.1.0.now) a.1.1.1.1.1.0 (booked a.1.1.1.1.1.0 a.1.1.1.1.1.1.0.now a.1.1.1.1.1.1.1.0.now a.1.1.1.1.1.1.1.1.0.now a.1.1.1.1.1.1.1.1.1.0.now) refl)) (λ κs a o p. p) (λ κs a. tt);
+      (merge_one a.0 (booked a.0 a.1.0.now a.1.1.0.now a.1.1.1.0.now a.1.1.1.1.0.now) a.1.1.1.1.1.0 (booked a.1.1.1.1.1.0 a.1.1.1.1.1.1.0.now a.1.1.1.1.1.1.1.0.now a.1.1.1.1.1.1.1.1.0.now a.1.1.1.1.1.1.1.1.1.0.now))) (λ κs a o p. p) (λ κs a. tt);
   withdraw = answering (λ κs a. one_retold
       (λ o. (o.0, record { keys = o.1.1.0; sums = o.1.1.1.0; index = o.1.1.1.1.0; book = o.1.1.1.1.1.0 }))
       (λ o. (o.0, (tt, (o.1.keys, (o.1.sums, (o.1.index, (o.1.book, (tt, tt))))))))
       (λ o. refl)
       (λ o. refl)
-      (withdraw_one a.0 (booked a.0 a.1.0.now a.1.1.0.now a.1.1.1.0.now a.1.1.1.1.0.now) a.1.1.1.1.1.0 refl)) (λ κs a o p. p) (λ κs a. tt);
+      (withdraw_one a.0 (booked a.0 a.1.0.now a.1.1.0.now a.1.1.1.0.now a.1.1.1.1.0.now) a.1.1.1.1.1.0)) (λ κs a o p. p) (λ κs a. tt);
   list = answering (λ κs a. one_retold
       (λ o. (o.0, o.1.1.1.1.1.1.0))
       (λ o. (o.0, (tt, (tt, (tt, (tt, (tt, (o.1, tt))))))))
@@ -334,6 +326,10 @@ pub reader_says : ReaderSays
 reader_says = record { reader_at_says = λ w κs a r e. refl; next_says = λ w κs a r e. refl; reader_at_asks = λ w κs a. refl; next_asks = λ w κs a. refl }
 
 -- ---- refused as a whole
+withdraw_refused : (c : Settings) (b : Booked) (k : ℤ) (x : ℕ) → withdraw_refusal c b k ≡ suc x → after_withdraw c b k ≡ b
+unfolding after_withdraw
+withdraw_refused c b k x e = rw (e, after_withdraw)
+
 pub refused_leaves_all : RefusedLeavesAll
 unfolding after_list after_filter
 refused_leaves_all = record {

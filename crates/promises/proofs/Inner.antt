@@ -74,11 +74,11 @@ inner_only = record {
   sums_are_theirs = λ κs a o u p q. λ i. ((p ∙ sym q) i, o.1);
   is_carried = λ κs a o u p q. λ i. ((p ∙ sym q) i, o.1);
   refusal_of = λ κs a o u p q. λ i. (one_told o.0 u.0 (p ∙ sym q) i, o.1);
-  take = λ κs a o u p q. λ i. (one_head a.0 o.0 u.0 (p.number_is ∙ sym q.number_is) (p.head_is ∙ sym q.head_is) i, (tt, ((p.keys_are ∙ sym q.keys_are) i, ((p.sums_are ∙ sym q.sums_are) i, ((p.index_are ∙ sym q.index_are) i, (tt, tt))))));
+  take = λ κs a o u p q. λ i. (one_head o.0 u.0 (p.number_is ∙ sym q.number_is) (p.head_is ∙ sym q.head_is) i, (tt, ((p.keys_are ∙ sym q.keys_are) i, ((p.sums_are ∙ sym q.sums_are) i, ((p.index_are ∙ sym q.index_are) i, (tt, tt))))));
   enter_one = λ κs a o u p q.
       let A = p.0.answers in
       let B = q.0.answers in λ i. (
-        one_head a.0 o.0 u.0 (A.number_is ∙ sym B.number_is) (A.head_is ∙ sym B.head_is) i,
+        one_head o.0 u.0 (A.number_is ∙ sym B.number_is) (A.head_is ∙ sym B.head_is) i,
         (
           tt,
           (

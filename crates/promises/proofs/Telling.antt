@@ -12,7 +12,8 @@ use Rattle.lattice.specs.Refusals.{Tests, first, number, told}
 use Rattle.lattice.proofs.Refusing.{number_not_0, one_number}
 use Rattle.table.specs.declared.Head.{Head}
 use Rattle.table.specs.Table.{Settings, Table}
-use Rattle.table.specs.Heads.{head_told, with_counts}
+use Rattle.table.specs.declared.Refused.{Refused as RefusedWith}
+use Rattle.table.specs.Heads.{head_told, told_beside}
 use Rattle.book.specs.Book.{Numbered, Booked}
 use Rattle.book.specs.Calls.{Outcome, one_more, entered, fresh_refusal, fresh_booked, call_refusal, refusal, enter_all, enter_refusal, parsed, enter, merge_refusal, withdraw_refusal}
 use Rattle.blur.specs.declared.pair.Pair.{Pair}
@@ -158,33 +159,28 @@ pub load_told : (l : List ℕ) (b : Booked) → Told (load l b).number
 unfolding load
 load_told l b = started_told (start_refusal l b) l b (either_told _ _ (item_told l 0) (fresh_told (settings_of l) b))
 
--- ---- a head, or a refusal
-pub head_by : Head → Result (Unit {0}) Refusal → Result Head Refusal
+-- ---- a head, or a refusal with a head beside it
+pub head_by : Head → Result (Unit {0}) Refusal → Result Head RefusedWith
 head_by after (Ok _) = Ok after
-head_by after (Err r) = Err r
+head_by after (Err r) = Err (record { refusal = r; head = after })
 
-pub head_tells : (after : Head) (r : Result (Unit {0}) Refusal) → told (head_by after r) ≡ told r
+pub head_tells : (after : Head) (r : Result (Unit {0}) Refusal) → told_beside (head_by after r) ≡ told r
 unfolding head_by
 head_tells after (Ok _) = refl
 head_tells after (Err r) = refl
 
--- the head that is handed back, where a refused call hands back the one that it was given
-pub head_handed : (given after : Head) (r : Result (Unit {0}) Refusal) → ((told r ≡ 0 → ⊥) → after ≡ given) → head_told given (head_by after r) ≡ after
+-- the head that is handed back, done or refused
+pub head_handed : (after : Head) (r : Result (Unit {0}) Refusal) → head_told (head_by after r) ≡ after
 unfolding head_by
-head_handed given after (Ok _) h = refl
-head_handed given after (Err r) h = sym (h (number_not_0 r))
-
--- a call that leaves all where it is refused does so
-pub head_given : (h : Head) (b u : Booked) (x : ℕ) → ((y : ℕ) → x ≡ suc y → u ≡ b) → (x ≡ 0 → ⊥) → with_counts h u.table.n u.table.m ≡ with_counts h b.table.n b.table.m
-head_given h b u zero f n = absurd (n refl)
-head_given h b u (suc y) f n = ap (λ (u : Booked). with_counts h u.table.n u.table.m) (f y refl)
+head_handed after (Ok _) = refl
+head_handed after (Err r) = refl
 
 -- ---- by no other
-pub one_head : (given : Head) (r q : Result Head Refusal) → told r ≡ told q → head_told given r ≡ head_told given q → r ≡ q
-one_head given (Ok h) (Ok k) e f = ap (λ (x : Head). Ok x) f
-one_head given (Ok h) (Err w) e f = absurd (number_not_0 w (sym e))
-one_head given (Err w) (Ok k) e f = absurd (number_not_0 w e)
-one_head given (Err w) (Err v) e f = ap (λ (x : Refusal). Err x) (one_number w v e)
+pub one_head : (r q : Result Head RefusedWith) → told_beside r ≡ told_beside q → head_told r ≡ head_told q → r ≡ q
+one_head (Ok h) (Ok k) e f = ap (λ (x : Head). Ok x) f
+one_head (Ok h) (Err w) e f = absurd (number_not_0 w.refusal (sym e))
+one_head (Err w) (Ok k) e f = absurd (number_not_0 w.refusal e)
+one_head (Err w) (Err v) e f = let same = one_number w.refusal v.refusal e in λ i. Err (record { refusal = same i; head = f i })
 
 pub one_reply : (r q : Result ℤ Refusal) → value_told r ≡ value_told q → told r ≡ told q → r ≡ q
 one_reply (Ok v) (Ok w) f e = ap (λ (x : ℤ). Ok x) f

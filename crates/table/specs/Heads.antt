@@ -2,8 +2,9 @@
 use Rattle.std.specs.Prelude.{◌≡◌, List, ℕ, ℤ, Result, Ok, Err}
 use Rattle.std.specs.Borrow.{Bor, MutBor}
 use denote.Triple.Both.{Both}
-use Rattle.lattice.specs.declared.refusals.Refusal.{Refusal}
+use Rattle.lattice.specs.Refusals.{number}
 use Rattle.table.specs.declared.Head.{Head}
+use Rattle.table.specs.declared.Refused.{Refused}
 use Rattle.table.specs.Table.{Settings, Table}
 
 -- "(d, S, C, number of readings n, number of points m)": the first three. The room of the book stands behind them.
@@ -26,10 +27,15 @@ head_of c B = record { d = c.d; fineness = c.S; capacity = c.C; room = B; readin
 abbrev pub with_counts : Head → ℕ → ℕ → Head
 with_counts h n m = record { d = h.d; fineness = h.fineness; capacity = h.capacity; room = h.room; readings = n; points = m }
 
--- the head that a call hands back, and where it refuses the one that it was given
-abbrev pub head_told : Head → Result Head Refusal → Head
-head_told given (Ok head) = head
-head_told given (Err _) = given
+-- the head that a call hands back, done or refused
+abbrev pub head_told : Result Head Refused → Head
+head_told (Ok head) = head
+head_told (Err refused) = refused.head
+
+-- the number that is told beside it, and 0 where nothing is refused
+abbrev pub told_beside : Result Head Refused → ℕ
+told_beside (Ok _) = 0
+told_beside (Err refused) = number refused.refusal
 
 -- Points counted and memory left are those of the table t.
 pub record Holds (t : Table) (points : ℕ) (keys sums : List ℤ) (index : List ℕ) : Type 0 where

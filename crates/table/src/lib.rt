@@ -8,6 +8,8 @@ ghost use Rattle.table.specs.Heads.{with_counts};
 pub mod reading;
 pub mod settings;
 
+use lattice::refusals::Refusal;
+
 // The settings (d, S, C and the room B of the book) and the numbers of readings and of points.
 #[derive(Clone, Copy)]
 pub struct Head {
@@ -17,6 +19,13 @@ pub struct Head {
     pub room: usize,
     pub readings: usize,
     pub points: usize,
+}
+
+// A refusal, with the head that is handed back beside it.
+#[derive(Clone, Copy)]
+pub struct Refused {
+    pub refusal: Refusal,
+    pub head: Head,
 }
 
 // The head of the same settings with these counts.
