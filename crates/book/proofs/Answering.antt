@@ -3,13 +3,14 @@
 use mathlib.Core.Path.{◌≡◌, refl, ap, sym, ◌∙◌}
 use mathlib.Core.Bool.{true, false}
 use mathlib.Core.List.{List}
-use Prim.Native.Nat.{ℕ, suc, ◌+◌, ◌*◌}
+use Prim.Native.Nat.{ℕ, zero, suc, ◌+◌, ◌*◌}
 use lib.Dec.{T, eqb, eqb→eq}
 use lib.IntN.{ℤ, pos}
 use lib.ListN.{length, replicate}
 use Rattle.whole.proofs.Tests.{and_l, and_r}
 use Rattle.lattice.specs.Refusals.{first, settings_out_of_range, other_length}
 use Rattle.lattice.proofs.Tests.{all_pass}
+use Rattle.table.specs.declared.Head.{Head}
 use Rattle.table.specs.Table.{Settings}
 use Rattle.table.specs.Calls.{fits, lent, fresh}
 use Rattle.table.specs.Heads.{head_of, with_counts}
@@ -44,6 +45,27 @@ pub merge_refused : (c : Settings) (b : Booked) (e : Settings) (s : Booked) (x :
 unfolding after_merge
 merge_refused c b e s x z = rw (z, after_merge)
 
+-- ---- a fresh call hands back the head of its settings, made or refused
+module _ (c : Settings) (b : Booked) where
+  pub none_held : (x : ℕ) → fresh_refusal c b ≡ x → (B : ℕ) → head_of c B ≡ with_counts (head_of c B) (after_fresh c b).table.n (after_fresh c b).table.m
+  unfolding fresh fresh_booked
+  none_held zero e B = rw (fresh_done c b e) refl
+  none_held (suc x) e B = rw (fresh_refused c b x e) refl
+
+  pub no_counts : (B : ℕ) {x number : ℕ} {head : Head} {keys sums : List ℤ} {index : List ℕ} {book : List ℤ} → number ≡ x
+      → AnswersBook (head_of c B) (fresh_refusal c b) (after_fresh c b) x head keys sums index book
+      → AnswersBook (head_of c B) (fresh_refusal c b) (after_fresh c b) number (head_of c B) keys sums index book
+  no_counts B e A = record {
+    answers = record {
+      number_is = e ∙ A.answers.number_is;
+      head_is = none_held (fresh_refusal c b) refl B;
+      keys_are = A.answers.keys_are;
+      sums_are = A.answers.sums_are;
+      index_are = A.answers.index_are;
+    };
+    book_is = A.book_is;
+  }
+
 -- ---- what a fresh call answers
 module _ (c : Settings) (room : ℕ) (keys sums : List ℤ) (index : List ℕ) (book : List ℤ) where
   abbrev given : Booked
@@ -53,12 +75,12 @@ module _ (c : Settings) (room : ℕ) (keys sums : List ℤ) (index : List ℕ) (
   Fresh number k s i l = AnswersBook (head_of c room) (fresh_refusal c given) (after_fresh c given) number (head_of c room) k s i l
 
   -- the table that is left, and what its parts are
-  answered : (x : ℕ) (b : Booked) {k s : List ℤ} {i : List ℕ} {l : List ℤ} → fresh_refusal c given ≡ x → after_fresh c given ≡ b → head_of c room ≡ with_counts (head_of c room) b.table.n b.table.m
+  answered : (x : ℕ) (b : Booked) {k s : List ℤ} {i : List ℕ} {l : List ℤ} → fresh_refusal c given ≡ x → after_fresh c given ≡ b
       → k ≡ b.table.keys → s ≡ b.table.sums → i ≡ b.table.index → l ≡ b.book → Fresh x k s i l
-  answered x b e a h p q o r = record {
+  answered x b e a p q o r = record {
     answers = record {
       number_is = sym e;
-      head_is = h ∙ ap (λ (b : Booked). with_counts (head_of c room) b.table.n b.table.m) (sym a);
+      head_is = none_held c given x e room;
       keys_are = p ∙ ap (λ (b : Booked). b.table.keys) (sym a);
       sums_are = q ∙ ap (λ (b : Booked). b.table.sums) (sym a);
       index_are = o ∙ ap (λ (b : Booked). b.table.index) (sym a);
@@ -67,7 +89,7 @@ module _ (c : Settings) (room : ℕ) (keys sums : List ℤ) (index : List ℕ) (
   }
 
   refused : (x : ℕ) → fresh_refusal c given ≡ suc x → Fresh (suc x) keys sums index book
-  refused x e = answered (suc x) (lent_book given) e (fresh_refused c given x e) refl refl refl refl refl
+  refused x e = answered (suc x) (lent_book given) e (fresh_refused c given x e) refl refl refl refl
 
   pub fresh_one : in_range c given ≡ false → Fresh settings_out_of_range keys sums index book
   unfolding fresh_refusal first
@@ -90,7 +112,7 @@ module _ (c : Settings) (room : ℕ) (keys sums : List ℤ) (index : List ℕ) (
       let size = eqb (length book) ((c.d + 3) * room) in
       let h = to_shape c given.table (and_l fit size (T_of f)) in
       let w = eqb→eq (length book) ((c.d + 3) * room) (and_r fit size (T_of f)) in
-      answered 0 (fresh_booked c room) z (fresh_done c given z) refl
+      answered 0 (fresh_booked c room) z (fresh_done c given z)
       (p ∙ ap (λ (n : ℕ). replicate n (pos 0)) h.keys)
       (q ∙ ap (λ (n : ℕ). replicate n (pos 0)) h.sums)
       (o ∙ ap (λ (n : ℕ). replicate n 0) h.index)

@@ -13,7 +13,7 @@ use Rattle.lattice.proofs.Refusing.{number_not_0, one_number}
 use Rattle.table.specs.declared.Head.{Head}
 use Rattle.table.specs.Table.{Settings, Table}
 use Rattle.table.specs.declared.Refused.{Refused as RefusedWith}
-use Rattle.table.specs.Heads.{head_told, told_beside}
+use Rattle.table.specs.Heads.{head_told, told_beside, with_counts}
 use Rattle.book.specs.Book.{Numbered, Booked}
 use Rattle.book.specs.Calls.{Outcome, one_more, entered, fresh_refusal, fresh_booked, call_refusal, refusal, enter_all, enter_refusal, parsed, enter, merge_refusal, withdraw_refusal}
 use Rattle.blur.specs.declared.pair.Pair.{Pair}
@@ -174,6 +174,11 @@ pub head_handed : (after : Head) (r : Result (Unit {0}) Refusal) → head_told (
 unfolding head_by
 head_handed after (Ok _) = refl
 head_handed after (Err r) = refl
+
+-- a call that leaves all where it is refused hands back the counts that it was given
+pub head_given : (h : Head) (b u : Booked) (x : ℕ) → ((y : ℕ) → x ≡ suc y → u ≡ b) → (x ≡ 0 → ⊥) → with_counts h u.table.n u.table.m ≡ with_counts h b.table.n b.table.m
+head_given h b u zero f n = absurd (n refl)
+head_given h b u (suc y) f n = ap (λ (u : Booked). with_counts h u.table.n u.table.m) (f y refl)
 
 -- ---- by no other
 pub one_head : (r q : Result Head RefusedWith) → told_beside r ≡ told_beside q → head_told r ≡ head_told q → r ≡ q
