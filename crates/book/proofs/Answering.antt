@@ -52,6 +52,7 @@ module _ (c : Settings) (b : Booked) where
   none_held zero e B = rw (fresh_done c b e) refl
   none_held (suc x) e B = rw (fresh_refused c b x e) refl
 
+  -- so a caller who has the settings can do without the head that is handed back; it is for such a one, and no crate here cites it
   pub no_counts : (B : ℕ) {x number : ℕ} {head : Head} {keys sums : List ℤ} {index : List ℕ} {book : List ℤ} → number ≡ x
       → AnswersBook (head_of c B) (fresh_refusal c b) (after_fresh c b) x head keys sums index book
       → AnswersBook (head_of c B) (fresh_refusal c b) (after_fresh c b) number (head_of c B) keys sums index book

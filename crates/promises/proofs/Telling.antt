@@ -175,7 +175,7 @@ unfolding head_by
 head_handed after (Ok _) = refl
 head_handed after (Err r) = refl
 
--- a call that leaves all where it is refused hands back the counts that it was given
+-- a call that leaves all where it is refused hands back the counts that it was given; for a caller who keeps the head that was given, and no proof here cites it
 pub head_given : (h : Head) (b u : Booked) (x : ℕ) → ((y : ℕ) → x ≡ suc y → u ≡ b) → (x ≡ 0 → ⊥) → with_counts h u.table.n u.table.m ≡ with_counts h b.table.n b.table.m
 head_given h b u zero f n = absurd (n refl)
 head_given h b u (suc y) f n = ap (λ (u : Booked). with_counts h u.table.n u.table.m) (f y refl)
